@@ -1,0 +1,96 @@
+-- What other crates use of the exhibits instead of their text: each factor is within the limit that the paper gives it.
+-- Assumes nothing.
+use Prim.Native.Nat.{ℕ, _≤_}
+use mathlib.Core.Path.{_≡_, refl, sym, _∙_}
+use mathlib.Core.List.{List, _++_, map}
+use mathlib.Core.Bool.{Bool, true, false}
+use lib.Dec.{leb}
+use lib.ListN.{length}
+use borrow.Author.Tests.{leb-true, le-ltb}
+use Rattle.search.specs.Places.{placeOf, among, every, lookUp}
+use Rattle.search.specs.PlaceLaws.{place-among, among-apart, sorted-among, look-none, look-each}
+use Rattle.exhibits.specs.declared.Cell.{Cell}
+use Rattle.exhibits.specs.declared.Cell.the-variants.{Factor, Lfb, NoData}
+use Rattle.exhibits.specs.declared.Toxic.{Toxic}
+use Rattle.exhibits.specs.declared.Toxic.the-variants.{OfGas, OfLiquid, NotListed}
+use Rattle.exhibits.specs.PrintedB1.{b1}
+use Rattle.exhibits.specs.PrintedB2.{b2}
+use Rattle.exhibits.specs.PrintedB4.{b4}
+use Rattle.exhibits.specs.Exhibits.{gasCas, liquidCas, gasIn, liquidIn, factorsOf, toxicOf}
+use Rattle.exhibits.specs.Columns.{order, lfaOf, lfbOf, dfOf, correctionsOf}
+
+-- a CAS number without a place in the order is in neither exhibit
+pub not-listed : (cas : ℕ) → length order ≤ placeOf cas order → toxicOf cas ≡ NotListed
+unfolding toxicOf order
+not-listed cas h =
+    let absent : among cas order ≡ false = sym (place-among cas order) ∙ le-ltb (placeOf cas order) (length order) h in
+    let apart = among-apart cas (map gasCas b1) (map liquidCas b2) (sym (sorted-among cas (map gasCas b1 ++ map liquidCas b2)) ∙ absent) in
+    look-none gasCas gasIn cas b1 (lookUp liquidCas liquidIn cas b2 NotListed) (apart .0)
+    ∙ look-none liquidCas liquidIn cas b2 NotListed (apart .1)
+
+-- a test that passes at each line of the exhibits, and where nothing is listed, passes at any CAS number
+pub listed : (ok : Toxic → Bool) → ok NotListed ≡ true → every (λ g. ok (gasIn g)) b1 ≡ true → every (λ l. ok (liquidIn l)) b2 ≡ true → (cas : ℕ) → ok (toxicOf cas) ≡ true
+unfolding toxicOf
+listed ok none gases liquids cas =
+    look-each gasCas gasIn cas ok b1 (lookUp liquidCas liquidIn cas b2 NotListed)
+    (look-each liquidCas liquidIn cas ok b2 NotListed none liquids) gases
+
+-- "TCF the temperature factor of Exhibit B-4 (at most 10, hundredths)"
+abbrev pub CellWithin : Cell → Type 0
+CellWithin (Factor n) = n ≤ 1000
+CellWithin Lfb = Unit {0}
+CellWithin NoData = Unit {0}
+
+abbrev cellFits : Cell → Bool
+cellFits (Factor n) = leb n 1000
+cellFits Lfb = true
+cellFits NoData = true
+
+cell-within : (x : Cell) → cellFits x ≡ true → CellWithin x
+cell-within (Factor n) e = leb-true n 1000 e
+cell-within Lfb e = tt
+cell-within NoData e = tt
+
+-- "DF is the density factor (at most 2, two decimals), LFA and LFB the liquid factors at 25 °C and at boiling (at most 1, held in millionths)"
+pub record Within (t : Toxic) : Type 0 where
+  pub lfa-limit : lfaOf t ≤ 1000000
+  pub lfb-limit : lfbOf t ≤ 1000000
+  pub df-limit : dfOf t ≤ 200
+  pub at30-limit : CellWithin (correctionsOf t .at30)
+  pub at35-limit : CellWithin (correctionsOf t .at35)
+  pub at40-limit : CellWithin (correctionsOf t .at40)
+  pub at45-limit : CellWithin (correctionsOf t .at45)
+  pub at50-limit : CellWithin (correctionsOf t .at50)
+
+pub within : (cas : ℕ) → Within (toxicOf cas)
+unfolding factorsOf lookUp b1 b2 b4
+within cas = record {
+  lfa-limit = leb-true (lfaOf (toxicOf cas)) 1000000 (listed (λ t. leb (lfaOf t) 1000000) refl refl refl cas);
+  lfb-limit = leb-true (lfbOf (toxicOf cas)) 1000000 (listed (λ t. leb (lfbOf t) 1000000) refl refl refl cas);
+  df-limit = leb-true (dfOf (toxicOf cas)) 200 (listed (λ t. leb (dfOf t) 200) refl refl refl cas);
+  at30-limit = cell-within (correctionsOf (toxicOf cas) .at30) (listed (λ t. cellFits (correctionsOf t .at30)) refl refl refl cas);
+  at35-limit = cell-within (correctionsOf (toxicOf cas) .at35) (listed (λ t. cellFits (correctionsOf t .at35)) refl refl refl cas);
+  at40-limit = cell-within (correctionsOf (toxicOf cas) .at40) (listed (λ t. cellFits (correctionsOf t .at40)) refl refl refl cas);
+  at45-limit = cell-within (correctionsOf (toxicOf cas) .at45) (listed (λ t. cellFits (correctionsOf t .at45)) refl refl refl cas);
+  at50-limit = cell-within (correctionsOf (toxicOf cas) .at50) (listed (λ t. cellFits (correctionsOf t .at50)) refl refl refl cas);
+}
+
+-- no endpoint is zero, so a rate may be divided by it
+abbrev pub Positive : Toxic → Type 0
+Positive (OfGas g) = 1 ≤ g .endpoint
+Positive (OfLiquid l) = 1 ≤ l .endpoint
+Positive NotListed = Unit {0}
+
+abbrev hasEndpoint : Toxic → Bool
+hasEndpoint (OfGas g) = leb 1 (g .endpoint)
+hasEndpoint (OfLiquid l) = leb 1 (l .endpoint)
+hasEndpoint NotListed = true
+
+above-zero : (t : Toxic) → hasEndpoint t ≡ true → Positive t
+above-zero (OfGas g) e = leb-true 1 (g .endpoint) e
+above-zero (OfLiquid l) e = leb-true 1 (l .endpoint) e
+above-zero NotListed e = tt
+
+pub positive : (cas : ℕ) → Positive (toxicOf cas)
+unfolding b1 b2
+positive cas = above-zero (toxicOf cas) (listed hasEndpoint refl refl refl cas)

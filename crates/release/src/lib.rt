@@ -1,0 +1,161 @@
+// Pool areas, release rates and durations: the functions that make and open pounds, square feet and pounds per minute.
+use units::{Pounds, PoundsPerMinute, SquareFeet};
+
+ghost use mathlib.Core.Path.{_≡_};
+ghost use Prim.Native.Nat.{_*_, _≤_};
+ghost use Rattle.release.specs.Pool.{fullArea, dikedArea, poolArea, gasRate, poolRate, atMostTenMinutes, beyondDike, isBuilding};
+
+// A dike around a vessel: the area inside it, and its wall in hundredths of a foot.
+pub struct Dike {
+    pub area: SquareFeet,
+    pub wall: u16,
+}
+
+// A building around a vessel, and its floor.
+pub struct Building {
+    pub floor: SquareFeet,
+}
+
+// What holds a spill: nothing, a dike or a building.
+pub enum Containment {
+    Open,
+    Dike(Dike),
+    Building(Building),
+}
+
+// Pounds, from a card's whole number.
+pub fn pounds(whole: u32) -> Pounds
+    ensures { λ r. ⌜ r .0 ≡ whole ⌝ }
+{
+    Pounds(whole)
+}
+
+// Square feet, from a card's whole number.
+pub fn square_feet(whole: u32) -> SquareFeet
+    ensures { λ r. ⌜ r .0 ≡ 100 * whole ⌝ }
+{
+    SquareFeet(100 * (whole as u64))
+}
+
+// A rate opened, for whoever writes or prints it.
+pub fn thousandths(rate: PoundsPerMinute) -> u64
+    ensures { λ r. ⌜ r ≡ rate .0 ⌝ }
+{
+    rate.0
+}
+
+// A blast has no rate.
+pub fn no_rate() -> PoundsPerMinute
+    ensures { λ r. ⌜ r .0 ≡ 0 ⌝ }
+{
+    PoundsPerMinute(0)
+}
+
+fn full_area(quantity: Pounds, df: u8) -> u64
+    ensures { λ r. ⌜ r ≡ fullArea (quantity .0) df ⌝ }
+{
+    let pounds = quantity.0;
+    (pounds as u64) * (df as u64)
+}
+
+fn smaller(a: u64, b: u64) -> u64
+    ensures { λ r. ⌜ r ≡ Prim.Native.Nat.min a b ⌝ }
+{
+    if a <= b { a } else { b }
+}
+
+// What an overflowing dike's pool covers, in whole hundredths: the closed form that the law `diked-closed` has.
+fn diked_area(quantity: Pounds, df: u8, dike: Dike) -> u64
+    ensures { λ r. ⌜ r ≡ dikedArea (fullArea (quantity .0) df) (dike .area .0) (dike .wall) ⌝ }
+{
+    let full = full_area(quantity, df);
+    let area = dike.area.0;
+    let wall = dike.wall as u64;
+    if full <= area {
+        return full;
+    }
+    let held = 10 * (area * wall) / 33;
+    if full <= held {
+        return area;
+    }
+    if held <= area {
+        return full;
+    }
+    area + (full - held)
+}
+
+// The area of the pool that this quantity makes.
+pub fn pool_area(quantity: Pounds, df: u8, containment: Containment) -> SquareFeet
+    ensures { λ r. ⌜ r .0 ≡ poolArea (quantity .0) df containment ⌝ }
+{
+    match containment {
+        Containment::Open => SquareFeet(full_area(quantity, df)),
+        Containment::Dike(dike) => SquareFeet(diked_area(quantity, df, dike)),
+        Containment::Building(building) => {
+            let floor = building.floor.0;
+            SquareFeet(smaller(floor, full_area(quantity, df)))
+        }
+    }
+}
+
+// A gas leaves within ten minutes; a building holds some of it back.
+pub fn gas_rate(quantity: Pounds, inside: bool) -> PoundsPerMinute
+    ensures { λ r. ⌜ r .0 ≡ gasRate (quantity .0) inside ⌝ }
+{
+    let pounds = quantity.0;
+    if inside {
+        PoundsPerMinute(55 * (pounds as u64))
+    } else {
+        PoundsPerMinute(100 * (pounds as u64))
+    }
+}
+
+// A pool evaporates by its area; a shed around it holds most of the vapor back. Both divisions are the paper's, halved so
+// that the product fits 64 bits at document 01's limits.
+pub fn pool_rate(lf: u32, tcf: u16, area: SquareFeet, shed: bool) -> PoundsPerMinute
+    requires { ⌜ lf ≤ 1_000_000 ⌝ }
+    requires { ⌜ tcf ≤ 1_000 ⌝ }
+    requires { ⌜ area .0 ≤ 2_600_000_000 ⌝ }
+    ensures { λ r. ⌜ r .0 ≡ poolRate lf tcf (area .0) shed ⌝ }
+{
+    let size = area.0;
+    let product = 7 * ((lf as u64) * (tcf as u64) * size);
+    if shed {
+        PoundsPerMinute((product + 499_999_999) / 500_000_000)
+    } else {
+        PoundsPerMinute((product + 49_999_999) / 50_000_000)
+    }
+}
+
+// Whether the pool is gone within ten minutes at this rate.
+pub fn at_most_ten_minutes(quantity: Pounds, rate: PoundsPerMinute) -> bool
+    ensures { λ r. ⌜ r ≡ atMostTenMinutes (quantity .0) (rate .0) ⌝ }
+{
+    let pounds = quantity.0;
+    100 * (pounds as u64) <= rate.0
+}
+
+// Whether the containment is a dike that the full area goes beyond.
+pub fn beyond_dike(quantity: Pounds, df: u8, containment: Containment) -> bool
+    ensures { λ r. ⌜ r ≡ beyondDike (quantity .0) df containment ⌝ }
+{
+    match containment {
+        Containment::Open => false,
+        Containment::Dike(dike) => {
+            let area = dike.area.0;
+            area < full_area(quantity, df)
+        }
+        Containment::Building(_) => false,
+    }
+}
+
+// Whether the containment is a building.
+pub fn is_building(containment: Containment) -> bool
+    ensures { λ r. ⌜ r ≡ isBuilding containment ⌝ }
+{
+    match containment {
+        Containment::Open => false,
+        Containment::Dike(_) => false,
+        Containment::Building(_) => true,
+    }
+}

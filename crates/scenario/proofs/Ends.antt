@@ -1,0 +1,107 @@
+-- One law for each way out of a function that goes by tests: what the tests and the calls on the way say is what the
+-- definition says. `search (ends, needs)` puts them to use.
+-- Assumes nothing.
+use Prim.Native.Nat.{ℕ, _≤_}
+use mathlib.Core.Path.{_≡_, _∙_, ap, sym, subst}
+use mathlib.Core.Bool.{Bool, true, false}
+use borrow.Author.Tests.{eq-eqb, ne-eqb}
+use lib.IntN.{ℤ}
+use mir.Syntax.{w16}
+use mir.Val.{SFits, toZ, ofZ}
+use mir.Facts.{toZ-ofZ}
+use Rattle.exhibits.specs.declared.Plume.{Plume}
+use Rattle.exhibits.specs.declared.Liquid.{Liquid}
+use Rattle.exhibits.specs.declared.Gas.{Gas}
+use Rattle.exhibits.specs.declared.Toxic.{Toxic}
+use Rattle.release.specs.declared.Containment.{Containment}
+use Rattle.dispersion.specs.declared.Ground.{Ground}
+use Rattle.units.specs.declared.PoundsPerMinute.{PoundsPerMinute}
+use Rattle.units.specs.declared.SquareFeet.{SquareFeet}
+use Rattle.release.specs.Pool.{poolArea, gasRate, poolRate, atMostTenMinutes, isBuilding}
+use Rattle.scenario.specs.declared.State.{State}
+use Rattle.scenario.specs.declared.Planned.{Planned}
+use Rattle.scenario.specs.declared.Planned.the-variants as planned
+use Rattle.scenario.specs.declared.ToxicCard.{ToxicCard}
+use Rattle.scenario.specs.declared.Scenario.{Scenario}
+use Rattle.scenario.specs.declared.Column.{Column}
+use Rattle.scenario.specs.declared.Factors.{Factors}
+use Rattle.scenario.specs.declared.Factors.the-variants.{Read, Missing}
+use Rattle.scenario.specs.Laws.{FactorsWithin, factors-within}
+use Rattle.exhibits.specs.Laws.{Within}
+use Rattle.exhibits.specs.declared.Toxic.the-variants as variants
+use Rattle.scenario.specs.Plan.{tableOf, ammoniaTable, genericTable, plumeIn, columnOf, factorsOf, vaporOf, poolOf, undiked, pooled, gasPlan, liquidPlan, factored, planFor, planOf}
+
+module _ (cas : ℕ) (s : State) (p : Plume) (g : Ground) (t : Bool) where
+  pub ammonia : (r : ℕ) → cas ≡ 7664417 → r ≡ ammoniaTable s → r ≡ tableOf cas s p g t
+  unfolding tableOf
+  ammonia r e q = simp (eq-eqb cas 7664417 e, tableOf) q
+
+  pub chlorine : (cas ≡ 7664417 → ⊥) → cas ≡ 7782505 → 11 ≡ tableOf cas s p g t
+  unfolding tableOf
+  chlorine n e = simp (ne-eqb cas 7664417 n, eq-eqb cas 7782505 e, tableOf)
+
+  pub sulfur : (cas ≡ 7664417 → ⊥) → (cas ≡ 7782505 → ⊥) → cas ≡ 7446095 → 12 ≡ tableOf cas s p g t
+  unfolding tableOf
+  sulfur n m e = simp (ne-eqb cas 7664417 n, ne-eqb cas 7782505 m, eq-eqb cas 7446095 e, tableOf)
+
+  pub generic : (r : ℕ) (q : Plume) → (cas ≡ 7664417 → ⊥) → (cas ≡ 7782505 → ⊥) → (cas ≡ 7446095 → ⊥) → q ≡ plumeIn s p → r ≡ genericTable q g t → r ≡ tableOf cas s p g t
+  unfolding tableOf
+  generic r q n m k f h =
+      simp (ne-eqb cas 7664417 n, ne-eqb cas 7782505 m, ne-eqb cas 7446095 k, tableOf)
+      (h ∙ ap (λ (x : Plume). genericTable x g t) f)
+
+-- what a test of a signed number says, where it was handed the number by its bits
+pub turn : {t : ℤ} (p : ℤ → Bool) {b v : Bool} → SFits w16 t → b ≡ p (toZ w16 (ofZ w16 t)) → b ≡ v → p t ≡ v
+turn p f e q = ap p (sym (toZ-ofZ f)) ∙ (sym e ∙ q)
+
+-- the factors in the column that the match has found
+pub in-column : (l : Liquid) {k m : Column} {r : Factors} → k ≡ m → r ≡ factorsOf l m → r ≡ factorsOf l k
+in-column l e q = q ∙ ap (factorsOf l) (sym e)
+
+-- route 1, put together from its calls
+pub vapor-end : (card : ToxicCard) (endpoint : ℕ) (plume : Plume) {t : ℕ} {rate : PoundsPerMinute} {inside : Bool} → inside ≡ isBuilding (card .containment) → rate .0 ≡ gasRate (card .quantity .0) inside → t ≡ tableOf (card .cas) (card .state) plume (card .ground) true → _≡_ {A = Scenario} (record { route = 1; table = t; rate = rate; endpoint = endpoint }) (vaporOf card endpoint plume)
+unfolding vaporOf
+vapor-end card endpoint plume b r t =
+    let p = r ∙ ap (gasRate (card .quantity .0)) b in
+    λ i. record { route = 1; table = t i; rate = record { 0 = p i }; endpoint = endpoint }
+
+-- route 2, put together from its calls
+pub pool-end : (card : ToxicCard) (df lf tcf : ℕ) (shed : Bool) (endpoint : ℕ) (plume : Plume) {t : ℕ} {area : SquareFeet} {rate : PoundsPerMinute} {ten : Bool} → area .0 ≡ poolArea (card .quantity .0) df (card .containment) → rate .0 ≡ poolRate lf tcf (area .0) shed → ten ≡ atMostTenMinutes (card .quantity .0) (rate .0) → t ≡ tableOf (card .cas) (card .state) plume (card .ground) ten → _≡_ {A = Scenario} (record { route = 2; table = t; rate = rate; endpoint = endpoint }) (poolOf card df lf tcf shed endpoint plume)
+unfolding poolOf
+pool-end card df lf tcf shed endpoint plume a r m t =
+    let p = r ∙ ap (λ (n : ℕ). poolRate lf tcf n shed) a in
+    let d = m ∙ ap (atMostTenMinutes (card .quantity .0)) p in
+    let q = t ∙ ap (tableOf (card .cas) (card .state) plume (card .ground)) d in
+    λ i. record { route = 2; table = q i; rate = record { 0 = p i }; endpoint = endpoint }
+
+-- the plan in the case that a match has found
+pub by-containment : (c d : Containment) (s : Scenario) (r : Planned) → c ≡ d → r ≡ undiked d s → r ≡ undiked c s
+by-containment c d s r e q = q ∙ ap (λ x. undiked x s) (sym e)
+
+pub by-pool : (b d : Bool) (s p v : Scenario) → b ≡ d → b ≡ true → s ≡ p → planned.Planned s ≡ pooled d p v
+by-pool b d s p v e t q = ap planned.Planned q ∙ ap (λ x. pooled x p v) (sym t ∙ e)
+
+pub by-vapor : (b d : Bool) (s p v : Scenario) → b ≡ d → b ≡ false → s ≡ v → planned.Planned s ≡ pooled d p v
+by-vapor b d s p v e t q = ap planned.Planned q ∙ ap (λ x. pooled x p v) (sym t ∙ e)
+
+pub in-gas-state : (s t : State) (card : ToxicCard) (g : Gas) (r : Planned) → s ≡ t → r ≡ gasPlan t card g → r ≡ gasPlan s card g
+in-gas-state s t card g r e q = q ∙ ap (λ x. gasPlan x card g) (sym e)
+
+pub in-liquid-state : (s t : State) (card : ToxicCard) (l : Liquid) (r : Planned) → s ≡ t → r ≡ liquidPlan t card l → r ≡ liquidPlan s card l
+in-liquid-state s t card l r e q = q ∙ ap (λ x. liquidPlan x card l) (sym e)
+
+-- the factors found are within the limits
+pub found-within : (l : Liquid) (k : Column) → Within (variants.OfLiquid l) → {f : Factors} {lf tcf : ℕ} → f ≡ factorsOf l k → f ≡ Read lf tcf → (lf ≤ 1_000_000) × (tcf ≤ 1_000)
+found-within l k w e q = subst FactorsWithin (sym e ∙ q) (factors-within l k w)
+
+pub spill-end : (card : ToxicCard) (l : Liquid) (k : Column) (f : Factors) (lf tcf : ℕ) (shed : Bool) (s : Scenario) → k ≡ columnOf (card .temperature) → f ≡ factorsOf l k → f ≡ Read lf tcf → shed ≡ isBuilding (card .containment) → s ≡ poolOf card (l .df) lf tcf shed (l .endpoint) (l .plume) → planned.Planned s ≡ factored (factorsOf l (columnOf (card .temperature))) card l
+spill-end card l k f lf tcf shed s a b d e q =
+    ap planned.Planned (q ∙ ap (λ x. poolOf card (l .df) lf tcf x (l .endpoint) (l .plume)) e)
+    ∙ ap (λ y. factored y card l) (sym d ∙ (b ∙ ap (factorsOf l) a))
+
+pub spill-none : (card : ToxicCard) (l : Liquid) (k : Column) (f : Factors) → k ≡ columnOf (card .temperature) → f ≡ factorsOf l k → f ≡ Missing → planned.Mismatch ≡ factored (factorsOf l (columnOf (card .temperature))) card l
+spill-none card l k f a b d = ap (λ y. factored y card l) (sym d ∙ (b ∙ ap (factorsOf l) a))
+
+pub by-entry : (card : ToxicCard) (t : Toxic) (r : Planned) → card .entry ≡ t → r ≡ planFor t card → r ≡ planOf card
+unfolding planOf
+by-entry card t r e q = q ∙ ap (λ y. planFor y card) (sym e)

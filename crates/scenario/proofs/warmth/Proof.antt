@@ -1,0 +1,23 @@
+use mathlib.Core.Path.{ap, _∙_}
+use mir.Syntax.{w16}
+use mir.Facts.{toZ-ofZ}
+use Rattle.scenario.specs.Plan.{columnOf}
+use borrow.Author.Needs.{needs}
+use Rattle.scenario.proofs.warmth.Statement.{statement}
+use Rattle.scenario.proofs.warmth.Tie as tie
+use Rattle.scenario.proofs.warmth.Reads as reads
+use Rattle.scenario.proofs.warmth.Lts as lts
+use Rattle.scenario.proofs.closest_column.Reads as closest-column-reads
+
+-- src/lib.rt:305:5
+closest-column-requires : tie.Need-closest-column-requires
+closest-column-requires c κs = search needs
+
+-- src/lib.rt:301:1
+returns : tie.Need-returns
+returns c =
+    let back = toZ-ofZ {w = w16} {z = c .before .before .args .card .temperature} (record { sfits = c .before .struct-told .given .1 .1 .1 .1 .1 .0 .1 }) in
+    c .closest-column .ensures ∙ ap columnOf back
+
+pub warmth-spec : {M : Type 1} → statement M
+warmth-spec = tie.close (tie.spec closest-column-requires returns)

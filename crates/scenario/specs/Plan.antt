@@ -1,0 +1,172 @@
+-- Route, rate and choice of table of a toxic card, as document 01 gives them under 'Route and rate' and 'Which table'.
+-- Assumes nothing.
+use Prim.Native.Nat.{ℕ, _≤_}
+use mathlib.Core.Bool.{Bool, true, false}
+use lib.Dec.{eqb}
+use lib.IntN.{ℤ, pos}
+use lib.Signed.{ltZ}
+use Rattle.exhibits.specs.declared.Plume.{Plume}
+use Rattle.exhibits.specs.declared.Plume.the-variants.{Neutral, Dense}
+use Rattle.exhibits.specs.declared.Cell.{Cell}
+use Rattle.exhibits.specs.declared.Cell.the-variants.{Factor, Lfb, NoData}
+use Rattle.exhibits.specs.declared.Toxic.{Toxic}
+use Rattle.exhibits.specs.declared.Toxic.the-variants as variants
+use Rattle.exhibits.specs.Laws.{Within}
+use Rattle.exhibits.specs.declared.Gas as gases
+use Rattle.exhibits.specs.declared.Liquid as liquids
+use Rattle.dispersion.specs.declared.Ground.{Ground}
+use Rattle.dispersion.specs.declared.Ground.the-variants.{Rural, Urban}
+use Rattle.release.specs.declared.Containment.{Containment}
+use Rattle.release.specs.declared.Containment.the-variants.{Open, Dike, Building}
+use Rattle.release.specs.Pool.{poolArea, gasRate, poolRate, atMostTenMinutes, beyondDike, isBuilding}
+use Rattle.scenario.specs.declared.State.{State}
+use Rattle.scenario.specs.declared.State.the-variants.{Gas, Pressurized, Refrigerated, Liquid}
+use Rattle.scenario.specs.declared.ToxicCard.{ToxicCard}
+use Rattle.scenario.specs.declared.Scenario.{Scenario}
+use Rattle.scenario.specs.declared.Column.{Column}
+use Rattle.scenario.specs.declared.Column.the-variants.{At25, At30, At35, At40, At45, At50, Above}
+use Rattle.scenario.specs.declared.Factors.{Factors}
+use Rattle.scenario.specs.declared.Factors.the-variants.{Read, Missing}
+use Rattle.scenario.specs.declared.Planned.{Planned}
+use Rattle.scenario.specs.declared.Planned.the-variants as planned
+
+-- "Other toxics: dense in states 2 and 3, else as the exhibit's worst-case column says."
+abbrev pub plumeIn : State → Plume → Plume
+plumeIn Gas p = p
+plumeIn Pressurized p = Dense
+plumeIn Refrigerated p = Dense
+plumeIn Liquid p = p
+
+-- "Neutral: Tables 1, 2 rural at 10 and 60 minutes, 3, 4 urban. Dense: 5, 6 rural, 7, 8 urban."
+abbrev pub genericTable : Plume → Ground → Bool → ℕ
+genericTable Neutral Rural true = 1
+genericTable Neutral Rural false = 2
+genericTable Neutral Urban true = 3
+genericTable Neutral Urban false = 4
+genericTable Dense Rural true = 5
+genericTable Dense Rural false = 6
+genericTable Dense Urban true = 7
+genericTable Dense Urban false = 8
+
+-- "Ammonia (CAS 7664417): Table 9 in state 2, else 10."
+abbrev pub ammoniaTable : State → ℕ
+ammoniaTable Gas = 10
+ammoniaTable Pressurized = 9
+ammoniaTable Refrigerated = 10
+ammoniaTable Liquid = 10
+
+-- "Chlorine: 11. Sulfur dioxide (7446095): 12." The last argument says whether the 10-minute table is selected.
+unfoldable pub tableOf : ℕ → State → Plume → Ground → Bool → ℕ
+tableOf cas state plume ground ten =
+    elim (eqb cas 7664417)
+    [ true ↦ ammoniaTable state
+    | false ↦
+        elim (eqb cas 7782505)
+        [ true ↦ 11
+        | false ↦ elim (eqb cas 7446095) [ true ↦ 12 | false ↦ genericTable (plumeIn state plume) ground ten ] ] ]
+
+-- "the closest column of B-4, the higher at a midpoint; 25 °C counts as a column of factor 1, and lower temperatures read
+-- it"; above 50.0 °C no column is read. The columns stand at 25, 30, 35, 40, 45 and 50 °C, temperatures are in tenths.
+unfoldable pub columnOf : ℤ → Column
+columnOf t =
+    elim (ltZ (pos 500) t)
+    [ true ↦ Above
+    | false ↦
+        elim (ltZ t (pos 275))
+        [ true ↦ At25
+        | false ↦
+            elim (ltZ t (pos 325))
+            [ true ↦ At30
+            | false ↦
+                elim (ltZ t (pos 375))
+                [ true ↦ At35
+                | false ↦
+                    elim (ltZ t (pos 425))
+                    [ true ↦ At40 | false ↦ elim (ltZ t (pos 475)) [ true ↦ At45 | false ↦ At50 ] ] ] ] ] ]
+
+-- "LFA and the TCF of the closest column"; "Where B-4 prints LFB instead of a factor: LFB, TCF 1."
+abbrev pub ofCell : ℕ → ℕ → Cell → Factors
+ofCell lfa lfb (Factor f) = Read lfa f
+ofCell lfa lfb Lfb = Read lfb 100
+ofCell lfa lfb NoData = Missing
+
+-- "State 4 above 50.0 °C: LFB, TCF 1. State 4 otherwise: LFA and the TCF of the closest column of B-4 .. 25 °C counts as a
+-- column of factor 1"
+abbrev pub factorsOf : liquids.Liquid → Column → Factors
+factorsOf l At25 = Read (l .lfa) 100
+factorsOf l At30 = ofCell (l .lfa) (l .lfb) (l .corrections .at30)
+factorsOf l At35 = ofCell (l .lfa) (l .lfb) (l .corrections .at35)
+factorsOf l At40 = ofCell (l .lfa) (l .lfb) (l .corrections .at40)
+factorsOf l At45 = ofCell (l .lfa) (l .lfb) (l .corrections .at45)
+factorsOf l At50 = ofCell (l .lfa) (l .lfb) (l .corrections .at50)
+factorsOf l Above = Read (l .lfb) 100
+
+-- "Route 1, gas over ten minutes"; "Route 1 selects the 10-minute one."
+unfoldable pub vaporOf : ToxicCard → ℕ → Plume → Scenario
+vaporOf card endpoint plume =
+    record {
+      route = 1;
+      table = tableOf (card .cas) (card .state) plume (card .ground) true;
+      rate = record { 0 = gasRate (card .quantity .0) (isBuilding (card .containment)) };
+      endpoint = endpoint }
+
+-- "Route 2, pool: 1.4 × LF × area × TCF; for state 4 in a building × 0.1 as well", and its duration's table
+unfoldable pub poolOf : ToxicCard → ℕ → ℕ → ℕ → Bool → ℕ → Plume → Scenario
+poolOf card df lf tcf shed endpoint plume =
+    let rate : ℕ = poolRate lf tcf (poolArea (card .quantity .0) df (card .containment)) shed in
+    record {
+      route = 2;
+      table =
+        tableOf (card .cas) (card .state) plume (card .ground) (atMostTenMinutes (card .quantity .0) rate);
+      rate = record { 0 = rate };
+      endpoint = endpoint }
+
+-- "dike in 1 or 2" is refused: a gas that leaves by itself meets no dike
+abbrev pub undiked : Containment → Scenario → Planned
+undiked Open s = planned.Planned s
+undiked (Dike d) s = planned.Mismatch
+undiked (Building b) s = planned.Planned s
+
+-- "state 3 unless diked with a full area above the diked area": the pool that stays in or runs over the dike, or the vapor
+abbrev pub pooled : Bool → Scenario → Scenario → Planned
+pooled true pool vapor = planned.Planned pool
+pooled false pool vapor = planned.Planned vapor
+
+-- "Route 1 .. States 1 and 2 always; state 3 unless diked with a full area above the diked area"; "State 3: LFB, TCF 1";
+-- "gas in state 4" is refused
+abbrev pub gasPlan : State → ToxicCard → gases.Gas → Planned
+gasPlan Gas card g = undiked (card .containment) (vaporOf card (g .endpoint) (g .plume))
+gasPlan Pressurized card g = undiked (card .containment) (vaporOf card (g .endpoint) (g .plume))
+gasPlan Refrigerated card g =
+    pooled
+    (beyondDike (card .quantity .0) (g .df) (card .containment))
+    (poolOf card (g .df) (g .lfb) 100 false (g .endpoint) (g .plume))
+    (vaporOf card (g .endpoint) (g .plume))
+gasPlan Liquid card g = planned.Mismatch
+
+-- a pool with the factors read, or "an exhibit field .. marked as without data"
+abbrev pub factored : Factors → ToxicCard → liquids.Liquid → Planned
+factored (Read lf tcf) card l =
+    planned.Planned (poolOf card (l .df) lf tcf (isBuilding (card .containment)) (l .endpoint) (l .plume))
+factored Missing card l = planned.Mismatch
+
+-- "liquid in 1 to 3" is refused
+abbrev pub liquidPlan : State → ToxicCard → liquids.Liquid → Planned
+liquidPlan Gas card l = planned.Mismatch
+liquidPlan Pressurized card l = planned.Mismatch
+liquidPlan Refrigerated card l = planned.Mismatch
+liquidPlan Liquid card l = factored (factorsOf l (columnOf (card .temperature))) card l
+
+-- the scenario of a toxic card, or refusal 10
+abbrev pub planFor : Toxic → ToxicCard → Planned
+planFor (variants.OfGas g) card = gasPlan (card .state) card g
+planFor (variants.OfLiquid l) card = liquidPlan (card .state) card l
+planFor variants.NotListed card = planned.Mismatch
+
+unfoldable pub planOf : ToxicCard → Planned
+planOf card = planFor (card .entry) card
+
+-- document 01's limits on a card that has been read
+pub record Limits (card : ToxicCard) : Type 0 where
+  pub quantity : card .quantity .0 ≤ 10_000_000
+  pub entry : Within (card .entry)

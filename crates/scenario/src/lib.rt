@@ -1,0 +1,360 @@
+// Route, rate and choice of table of a toxic card: what the guidance does between a card's meaning and the tables.
+use dispersion::Ground;
+use exhibits::{Cell, Gas, Liquid, Plume, Toxic};
+use release::Containment;
+use units::{Pounds, PoundsPerMinute};
+
+ghost use mathlib.Core.Path.{_≡_};
+ghost use Prim.Native.Nat.{_≤_};
+ghost use lib.Signed.{ltZ};
+ghost use Rattle.exhibits.specs.Laws.{Within};
+ghost use Rattle.scenario.specs.Plan.{tableOf, columnOf, ofCell, factorsOf, vaporOf, poolOf, undiked, pooled, gasPlan, factored, liquidPlan, planOf, Limits};
+
+// How the substance is held: document 01's states 1 to 4.
+pub enum State {
+    Gas,
+    Pressurized,
+    Refrigerated,
+    Liquid,
+}
+
+// What a toxic card means, once it has been read.
+pub struct ToxicCard {
+    pub cas: u32,
+    pub entry: Toxic,
+    pub state: State,
+    pub ground: Ground,
+    pub quantity: Pounds,
+    // tenths of a degree Celsius
+    pub temperature: i16,
+    pub containment: Containment,
+}
+
+// A release: its route, the reference table that serves it, its rate, and the endpoint that the table is read at.
+pub struct Scenario {
+    pub route: u8,
+    pub table: u8,
+    pub rate: PoundsPerMinute,
+    pub endpoint: u32,
+}
+
+// The liquid factor and the temperature factor that a pool reads, or that the exhibit has no data for it.
+pub enum Factors {
+    Read(u32, u16),
+    Missing,
+}
+
+// The columns of B-4, with 25 °C before them, and the temperatures above them all.
+pub enum Column {
+    At25,
+    At30,
+    At35,
+    At40,
+    At45,
+    At50,
+    Above,
+}
+
+// A card's scenario, or that its state, containment or exhibit does not allow one.
+pub enum Planned {
+    Planned(Scenario),
+    Mismatch,
+}
+
+fn generic_table(plume: Plume, ground: Ground, ten_minutes: bool) -> u8
+    ensures { λ r. ⌜ r ≡ Rattle.scenario.specs.Plan.genericTable plume ground «ten_minutes» ⌝ }
+{
+    match plume {
+        Plume::Neutral => match ground {
+            Ground::Rural => if ten_minutes { 1 } else { 2 },
+            Ground::Urban => if ten_minutes { 3 } else { 4 },
+        },
+        Plume::Dense => match ground {
+            Ground::Rural => if ten_minutes { 5 } else { 6 },
+            Ground::Urban => if ten_minutes { 7 } else { 8 },
+        },
+    }
+}
+
+fn plume_in(state: State, plume: Plume) -> Plume
+    ensures { λ r. ⌜ r ≡ Rattle.scenario.specs.Plan.plumeIn state plume ⌝ }
+{
+    match state {
+        State::Gas => plume,
+        State::Pressurized => Plume::Dense,
+        State::Refrigerated => Plume::Dense,
+        State::Liquid => plume,
+    }
+}
+
+fn ammonia_table(state: State) -> u8
+    ensures { λ r. ⌜ r ≡ Rattle.scenario.specs.Plan.ammoniaTable state ⌝ }
+{
+    match state {
+        State::Gas => 10,
+        State::Pressurized => 9,
+        State::Refrigerated => 10,
+        State::Liquid => 10,
+    }
+}
+
+// The reference table of a substance: three have their own, the others go by plume, ground and duration.
+fn table(cas: u32, state: State, plume: Plume, ground: Ground, ten_minutes: bool) -> u8
+    ensures { λ r. ⌜ r ≡ tableOf cas state plume ground «ten_minutes» ⌝ }
+{
+    if cas == 7664417 {
+        return ammonia_table(state);
+    }
+    if cas == 7782505 {
+        return 11;
+    }
+    if cas == 7446095 {
+        return 12;
+    }
+    generic_table(plume_in(state, plume), ground, ten_minutes)
+}
+
+// Whether a temperature is below a limit, both in signed tenths.
+fn below(tenths: i16, limit: i16) -> bool
+    ensures { λ r. ⌜ r ≡ ltZ tenths limit ⌝ }
+{
+    tenths < limit
+}
+
+// The closest column of B-4, the higher at a midpoint; above 50.0 °C no column is read.
+pub fn closest_column(tenths: i16) -> Column
+    ensures { λ r. ⌜ r ≡ columnOf tenths ⌝ }
+{
+    if below(500, tenths) {
+        return Column::Above;
+    }
+    if below(tenths, 275) {
+        return Column::At25;
+    }
+    if below(tenths, 325) {
+        return Column::At30;
+    }
+    if below(tenths, 375) {
+        return Column::At35;
+    }
+    if below(tenths, 425) {
+        return Column::At40;
+    }
+    if below(tenths, 475) {
+        return Column::At45;
+    }
+    Column::At50
+}
+
+// What a cell of B-4 makes of a liquid's factors.
+fn of_cell(lfa: u32, lfb: u32, cell: Cell) -> Factors
+    ensures { λ r. ⌜ r ≡ ofCell lfa lfb cell ⌝ }
+{
+    match cell {
+        Cell::Factor(tcf) => Factors::Read(lfa, tcf),
+        Cell::Lfb => Factors::Read(lfb, 100),
+        Cell::NoData => Factors::Missing,
+    }
+}
+
+// The factors that a liquid's pool reads in this column.
+fn factors_at(liquid: Liquid, column: Column) -> Factors
+    ensures { λ r. ⌜ r ≡ factorsOf liquid column ⌝ }
+{
+    let lfa = liquid.lfa;
+    let lfb = liquid.lfb;
+    let cells = liquid.corrections;
+    match column {
+        Column::Above => Factors::Read(lfb, 100),
+        Column::At25 => Factors::Read(lfa, 100),
+        Column::At30 => {
+            let cell = cells.at30;
+            of_cell(lfa, lfb, cell)
+        }
+        Column::At35 => {
+            let cell = cells.at35;
+            of_cell(lfa, lfb, cell)
+        }
+        Column::At40 => {
+            let cell = cells.at40;
+            of_cell(lfa, lfb, cell)
+        }
+        Column::At45 => {
+            let cell = cells.at45;
+            of_cell(lfa, lfb, cell)
+        }
+        Column::At50 => {
+            let cell = cells.at50;
+            of_cell(lfa, lfb, cell)
+        }
+    }
+}
+
+// Route 1: the whole quantity as a gas over ten minutes.
+fn vapor(card: ToxicCard, endpoint: u32, plume: Plume) -> Scenario
+    ensures { λ r. ⌜ r ≡ vaporOf card endpoint plume ⌝ }
+{
+    let containment = card.containment;
+    let quantity = card.quantity;
+    let state = card.state;
+    let ground = card.ground;
+    let inside = release::is_building(containment);
+    let rate = release::gas_rate(quantity, inside);
+    let number = table(card.cas, state, plume, ground, true);
+    Scenario {
+        route: 1,
+        table: number,
+        rate,
+        endpoint,
+    }
+}
+
+// What the exhibits give a pool.
+struct Source {
+    df: u8,
+    lf: u32,
+    tcf: u16,
+    shed: bool,
+    endpoint: u32,
+    plume: Plume,
+}
+
+// Route 2: a pool that evaporates, and the table of its duration.
+fn pool(card: ToxicCard, source: Source) -> Scenario
+    requires { ⌜ card .quantity .0 ≤ 10_000_000 ⌝ }
+    requires { ⌜ source .df ≤ 200 ⌝ }
+    requires { ⌜ source .lf ≤ 1_000_000 ⌝ }
+    requires { ⌜ source .tcf ≤ 1_000 ⌝ }
+    ensures { λ r. ⌜ r ≡ poolOf card (source .df) (source .lf) (source .tcf) (source .shed) (source .endpoint) (source .plume) ⌝ }
+{
+    let containment = card.containment;
+    let quantity = card.quantity;
+    let state = card.state;
+    let ground = card.ground;
+    let plume = source.plume;
+    let area = release::pool_area(quantity, source.df, containment);
+    let rate = release::pool_rate(source.lf, source.tcf, area, source.shed);
+    let ten = release::at_most_ten_minutes(quantity, rate);
+    let number = table(card.cas, state, plume, ground, ten);
+    Scenario {
+        route: 2,
+        table: number,
+        rate,
+        endpoint: source.endpoint,
+    }
+}
+
+// Route 1 of a gas that stands under its own pressure, which no dike holds.
+fn freed(card: ToxicCard, gas: Gas) -> Planned
+    ensures { λ r. ⌜ r ≡ undiked (card .containment) (vaporOf card (gas .endpoint) (gas .plume)) ⌝ }
+{
+    let containment = card.containment;
+    let plume = gas.plume;
+    let scenario = vapor(card, gas.endpoint, plume);
+    match containment {
+        Containment::Open => Planned::Planned(scenario),
+        Containment::Dike(_) => Planned::Mismatch,
+        Containment::Building(_) => Planned::Planned(scenario),
+    }
+}
+
+// A refrigerated gas: a pool where it runs beyond its dike's area, a vapor otherwise.
+fn refrigerated(card: ToxicCard, gas: Gas) -> Planned
+    requires { ⌜ card .quantity .0 ≤ 10_000_000 ⌝ }
+    requires { ⌜ (gas .lfb ≤ 1_000_000) × (gas .df ≤ 200) ⌝ }
+    ensures { λ r. ⌜ r ≡ gasPlan State.Refrigerated card gas ⌝ }
+{
+    let containment = card.containment;
+    let quantity = card.quantity;
+    let plume = gas.plume;
+    let beyond = release::beyond_dike(quantity, gas.df, containment);
+    if beyond {
+        let source = Source {
+            df: gas.df,
+            lf: gas.lfb,
+            tcf: 100,
+            shed: false,
+            endpoint: gas.endpoint,
+            plume,
+        };
+        Planned::Planned(pool(card, source))
+    } else {
+        Planned::Planned(vapor(card, gas.endpoint, plume))
+    }
+}
+
+fn gas_plan(card: ToxicCard, gas: Gas) -> Planned
+    requires { ⌜ card .quantity .0 ≤ 10_000_000 ⌝ }
+    requires { ⌜ (gas .lfb ≤ 1_000_000) × (gas .df ≤ 200) ⌝ }
+    ensures { λ r. ⌜ r ≡ gasPlan (card .state) card gas ⌝ }
+{
+    let state = card.state;
+    match state {
+        State::Gas => freed(card, gas),
+        State::Pressurized => freed(card, gas),
+        State::Refrigerated => refrigerated(card, gas),
+        State::Liquid => Planned::Mismatch,
+    }
+}
+
+// The column of B-4 that a card's temperature reads.
+fn warmth(card: ToxicCard) -> Column
+    ensures { λ r. ⌜ r ≡ columnOf (card .temperature) ⌝ }
+{
+    let tenths = card.temperature;
+    closest_column(tenths)
+}
+
+// A liquid's pool, with the factors of its temperature.
+fn spilled(card: ToxicCard, liquid: Liquid) -> Planned
+    requires { ⌜ card .quantity .0 ≤ 10_000_000 ⌝ }
+    requires { ⌜ Within (Toxic.OfLiquid liquid) ⌝ }
+    ensures { λ r. ⌜ r ≡ liquidPlan State.Liquid card liquid ⌝ }
+{
+    let containment = card.containment;
+    let plume = liquid.plume;
+    let column = warmth(card);
+    let found = factors_at(liquid, column);
+    let shed = release::is_building(containment);
+    match found {
+        Factors::Read(lf, tcf) => {
+            let source = Source {
+                df: liquid.df,
+                lf,
+                tcf,
+                shed,
+                endpoint: liquid.endpoint,
+                plume,
+            };
+            Planned::Planned(pool(card, source))
+        }
+        Factors::Missing => Planned::Mismatch,
+    }
+}
+
+fn liquid_plan(card: ToxicCard, liquid: Liquid) -> Planned
+    requires { ⌜ card .quantity .0 ≤ 10_000_000 ⌝ }
+    requires { ⌜ Within (Toxic.OfLiquid liquid) ⌝ }
+    ensures { λ r. ⌜ r ≡ liquidPlan (card .state) card liquid ⌝ }
+{
+    let state = card.state;
+    match state {
+        State::Gas => Planned::Mismatch,
+        State::Pressurized => Planned::Mismatch,
+        State::Refrigerated => Planned::Mismatch,
+        State::Liquid => spilled(card, liquid),
+    }
+}
+
+// The scenario of a toxic card, or that its state, containment or exhibit allows none.
+pub fn plan(card: ToxicCard) -> Planned
+    requires { ⌜ Limits card ⌝ }
+    ensures { λ r. ⌜ r ≡ planOf card ⌝ }
+{
+    let entry = card.entry;
+    match entry {
+        Toxic::OfGas(gas) => gas_plan(card, gas),
+        Toxic::OfLiquid(liquid) => liquid_plan(card, liquid),
+        Toxic::NotListed => Planned::Mismatch,
+    }
+}

@@ -1,0 +1,5 @@
+pub mod Rising
+pub mod Laws
+pub mod Places
+pub mod PlaceLaws
+pub mod Flat

@@ -1,0 +1,37 @@
+// The one search of the register: substances, cut points and quantities are all found by it.
+ghost use mathlib.Core.Path.{_≡_};
+ghost use mathlib.Core.Bool.{true};
+ghost use Rattle.search.specs.Rising.{firstAtLeast, rises};
+ghost use Rattle.search.specs.Places.{placeOf};
+
+// The first place whose entry is at least x, or the length where there is none. Each turn halves what is left.
+pub fn first_at_least(a: &[u64], x: u64) -> usize
+    requires { ⌜ rises (now a) ≡ true ⌝ }
+    ensures { λ r. ⌜ r ≡ firstAtLeast x (now (a .entry)) ⌝ }
+{
+    let mut lo = 0;
+    let mut hi = a.len();
+    while lo < hi {
+        let mid = lo + (hi - lo) / 2;
+        if a[mid] < x {
+            lo = mid + 1;
+        } else {
+            hi = mid;
+        }
+    }
+    lo
+}
+
+// The place where x stands, or the length where it stands nowhere.
+pub fn place_of(a: &[u64], x: u64) -> usize
+    requires { ⌜ rises (now a) ≡ true ⌝ }
+    ensures { λ r. ⌜ r ≡ placeOf x (now (a .entry)) ⌝ }
+{
+    let at = first_at_least(a, x);
+    if at < a.len() {
+        if a[at] == x {
+            return at;
+        }
+    }
+    a.len()
+}

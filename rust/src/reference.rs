@@ -1,0 +1,228 @@
+//! The second implementation: document 01 in plain safe Rust.
+//!
+//! Bytes become cards ([`card`]), a toxic card a release ([`release`]), and a release or a quantity a distance, read
+//! from the printed tables ([`printed`]).
+
+mod card;
+pub mod printed;
+mod release;
+#[cfg(test)]
+mod tests;
+mod units;
+
+use card::{Card, Meaning};
+use printed::Printed;
+use std::fmt::Write as _;
+use units::{Miles, PoundsPerMinute};
+
+/// Bytes of a register before its first card.
+pub const HEADER_LEN: usize = 7;
+/// Bytes of a card.
+pub const CARD_LEN: usize = 24;
+/// Bytes of a card's answer.
+pub const ANSWER_LEN: usize = 16;
+/// The most cards a register may have.
+pub const MAX_CARDS: usize = 2_000;
+/// Bytes of the longest register that can be accepted.
+pub const MAX_LEN: usize = HEADER_LEN + MAX_CARDS * CARD_LEN;
+
+const VERSION: u8 = 1;
+
+/// What an accepted call gives beside the answer buffer.
+#[derive(Debug, Clone, Copy, PartialEq, Eq, Default)]
+pub struct Accepted {
+    /// The toxic card with the largest distance.
+    pub toxic: Option<Farthest>,
+    /// The flammable card with the largest distance.
+    pub flammable: Option<Farthest>,
+}
+
+/// The farthest card of a class.
+#[derive(Debug, Clone, Copy, PartialEq, Eq)]
+pub struct Farthest {
+    /// Its card number.
+    pub card: u32,
+    /// Its distance in hundredths of a mile.
+    pub miles: u16,
+}
+
+/// Why and where a register is sent back.
+#[derive(Debug, Clone, Copy, PartialEq, Eq)]
+pub struct Refused {
+    /// The number in document 01's table of refusals.
+    pub number: u8,
+    /// The card's place, counted from 0.
+    pub place: u32,
+}
+
+/// The conditions of document 01's table of refusals, with their numbers.
+#[derive(Debug, Clone, Copy, PartialEq, Eq)]
+enum Fault {
+    Length = 1,
+    Version = 2,
+    Count = 3,
+    Buffer = 4,
+    CardNumber = 5,
+    Form = 6,
+    Substance = 7,
+    Pounds = 8,
+    Range = 9,
+    Exhibit = 10,
+    Table = 11,
+}
+
+impl Fault {
+    /// The refusal of the card at a place. A register has far fewer cards than `u32` can count.
+    fn at(self, place: usize) -> Refused {
+        Refused { number: self as u8, place: place as u32 }
+    }
+
+    /// The refusal of a whole register: no card is meant.
+    fn of_register(self) -> Refused {
+        self.at(0)
+    }
+}
+
+/// Answers a register into `out`, sixteen bytes a card, and gives the farthest card of each class.
+///
+/// Bytes of `out` beyond the answers are left alone, and so is all of it on refusal.
+pub fn answer(register: &[u8], out: &mut [u8]) -> Result<Accepted, Refused> {
+    let cards = card_bytes(register)?;
+    let needed = cards.len() / CARD_LEN * ANSWER_LEN;
+    let slots = out.get_mut(..needed).ok_or_else(|| Fault::Buffer.of_register())?;
+    // Every card is answered before a byte is written.
+    let answers = answers(cards)?;
+    for (slot, answer) in slots.chunks_exact_mut(ANSWER_LEN).zip(&answers) {
+        slot.copy_from_slice(&answer.bytes());
+    }
+    Ok(farthest(&answers))
+}
+
+/// The text that the listing program prints for a register.
+pub fn listing(register: &[u8]) -> String {
+    if register.len() > MAX_LEN {
+        return "too long\n".to_string();
+    }
+    match card_bytes(register).and_then(answers) {
+        Ok(answers) => list(&answers),
+        Err(Refused { number, place }) => format!("refused {number} at {place}\n"),
+    }
+}
+
+/// Checks 1 to 3; the bytes behind the header, a whole number of cards.
+fn card_bytes(register: &[u8]) -> Result<&[u8], Refused> {
+    let Some((&[l0, l1, l2, l3, version, c0, c1], cards)) = register.split_first_chunk::<HEADER_LEN>() else {
+        return Err(Fault::Length.of_register());
+    };
+    if u64::from(u32::from_be_bytes([l0, l1, l2, l3])) != register.len() as u64 {
+        return Err(Fault::Length.of_register());
+    }
+    if version != VERSION {
+        return Err(Fault::Version.of_register());
+    }
+    let count = usize::from(u16::from_be_bytes([c0, c1]));
+    if count > MAX_CARDS || cards.len() != count * CARD_LEN {
+        return Err(Fault::Count.of_register());
+    }
+    Ok(cards)
+}
+
+/// A card's answer, and its class for the ranking.
+struct Answer {
+    number: u32,
+    class: Class,
+    route: u8,
+    table: u8,
+    rate: PoundsPerMinute,
+    miles: Miles,
+}
+
+#[derive(Clone, Copy, PartialEq, Eq)]
+enum Class {
+    Toxic,
+    Flammable,
+}
+
+impl Answer {
+    fn bytes(&self) -> [u8; ANSWER_LEN] {
+        let mut bytes = [0; ANSWER_LEN];
+        bytes[..4].copy_from_slice(&self.number.to_be_bytes());
+        bytes[4] = self.route;
+        bytes[5] = self.table;
+        bytes[6..14].copy_from_slice(&self.rate.thousandths().to_be_bytes());
+        bytes[14..].copy_from_slice(&self.miles.hundredths().to_be_bytes());
+        bytes
+    }
+}
+
+/// Checks 5 to 11 on each card in turn, with the answers if all pass.
+fn answers(cards: &[u8]) -> Result<Vec<Answer>, Refused> {
+    let printed = printed::printed();
+    let mut answers = Vec::with_capacity(cards.len() / CARD_LEN);
+    let mut last_number = 0;
+    for (place, bytes) in cards.chunks_exact(CARD_LEN).enumerate() {
+        let card = Card::read(bytes, last_number, printed).map_err(|fault| fault.at(place))?;
+        last_number = card.number;
+        answers.push(answer_of(&card, printed).map_err(|fault| fault.at(place))?);
+    }
+    Ok(answers)
+}
+
+fn answer_of(card: &Card, printed: &Printed) -> Result<Answer, Fault> {
+    match &card.meaning {
+        Meaning::Toxic(toxic) => {
+            let release = toxic.release()?;
+            let table = toxic.table(release.span);
+            Ok(Answer {
+                number: card.number,
+                class: Class::Toxic,
+                route: release.route as u8,
+                table: table.number(),
+                rate: release.rate,
+                miles: table.distance(printed, release.rate, toxic.substance).ok_or(Fault::Table)?,
+            })
+        }
+        Meaning::Flammable { substance, pounds } => Ok(Answer {
+            number: card.number,
+            class: Class::Flammable,
+            route: release::Route::Blast as u8,
+            table: printed::BLAST_TABLE,
+            rate: PoundsPerMinute::NONE,
+            miles: printed.blast_distance(substance, *pounds).ok_or(Fault::Table)?,
+        }),
+    }
+}
+
+fn farthest(answers: &[Answer]) -> Accepted {
+    answers.iter().fold(Accepted::default(), |mut leaders, answer| {
+        let leader = match answer.class {
+            Class::Toxic => &mut leaders.toxic,
+            Class::Flammable => &mut leaders.flammable,
+        };
+        let miles = answer.miles.hundredths();
+        // Strictly farther, so the earlier card leads on a tie.
+        if leader.is_none_or(|leader| leader.miles < miles) {
+            *leader = Some(Farthest { card: answer.number, miles });
+        }
+        leaders
+    })
+}
+
+fn list(answers: &[Answer]) -> String {
+    let mut text = String::new();
+    for answer in answers {
+        let Answer { number, route, table, rate, miles, .. } = answer;
+        writeln!(text, "{number} {route} {table} {rate} {miles}").expect("a String takes all text");
+    }
+    let Accepted { toxic, flammable } = farthest(answers);
+    text + &farthest_line('T', toxic) + &farthest_line('F', flammable)
+}
+
+fn farthest_line(class: char, farthest: Option<Farthest>) -> String {
+    match farthest {
+        Some(Farthest { card, miles }) => {
+            format!("{class} {card} {}\n", Miles::from_hundredths(miles))
+        }
+        None => format!("{class} none\n"),
+    }
+}

@@ -1,0 +1,179 @@
+//! A card's 24 bytes, taken apart into a meaning or a refusal.
+
+use super::printed::{Flammable, Phase, Printed, Toxic};
+use super::units::{Pounds, SquareFeet};
+use super::{Fault, CARD_LEN};
+use std::ops::RangeInclusive;
+
+const POUNDS: RangeInclusive<u32> = 1..=10_000_000;
+const AREA: RangeInclusive<u32> = 1..=1_000_000;
+const WALL: RangeInclusive<u16> = 0..=10_000;
+const TEMPERATURE: RangeInclusive<i16> = -500..=3_000;
+
+/// A card that passed checks 5 to 9, and 10 as far as its fields alone decide it.
+pub struct Card<'p> {
+    pub number: u32,
+    pub meaning: Meaning<'p>,
+}
+
+pub enum Meaning<'p> {
+    Toxic(ToxicCard<'p>),
+    Flammable { substance: &'p Flammable, pounds: Pounds },
+}
+
+pub struct ToxicCard<'p> {
+    pub substance: &'p Toxic,
+    pub state: State,
+    pub ground: Ground,
+    pub containment: Containment,
+    pub pounds: Pounds,
+}
+
+#[derive(Debug, Clone, Copy, PartialEq, Eq)]
+pub enum State {
+    Gas,
+    Pressurised,
+    Refrigerated,
+    /// A liquid, at tenths of a degree Celsius.
+    Liquid(i16),
+}
+
+#[derive(Debug, Clone, Copy, PartialEq, Eq)]
+pub enum Ground {
+    Rural,
+    Urban,
+}
+
+#[derive(Debug, Clone, Copy, PartialEq, Eq)]
+pub enum Containment {
+    Open,
+    Dike(Dike),
+    Building { floor: SquareFeet },
+}
+
+#[derive(Debug, Clone, Copy, PartialEq, Eq)]
+pub struct Dike {
+    pub area: SquareFeet,
+    pub wall: Wall,
+}
+
+/// The height of a wall, in hundredths of a foot.
+#[derive(Debug, Clone, Copy, PartialEq, Eq)]
+pub struct Wall(pub u64);
+
+impl<'p> Card<'p> {
+    /// Reads a card; `last_number` is the number of the card before it, or 0.
+    pub fn read(bytes: &[u8], last_number: u32, printed: &'p Printed) -> Result<Self, Fault> {
+        let fields = Fields::cut(bytes);
+        if fields.number <= last_number {
+            return Err(Fault::CardNumber);
+        }
+        let meaning = match fields.kind {
+            1 => Meaning::Toxic(toxic(&fields, printed)?),
+            2 => flammable(&fields, printed)?,
+            _ => return Err(Fault::Form),
+        };
+        Ok(Card { number: fields.number, meaning })
+    }
+}
+
+/// The fields of a card as they stand.
+struct Fields {
+    kind: u8,
+    state: u8,
+    ground: u8,
+    containment: u8,
+    cas: u32,
+    pounds: u32,
+    area: u32,
+    wall: u16,
+    tenths: i16,
+    number: u32,
+}
+
+impl Fields {
+    fn cut(bytes: &[u8]) -> Self {
+        let bytes: &[u8; CARD_LEN] = bytes.try_into().expect("a card has 24 bytes");
+        let word = |at: usize| u32::from_be_bytes([bytes[at], bytes[at + 1], bytes[at + 2], bytes[at + 3]]);
+        Fields {
+            kind: bytes[0],
+            state: bytes[1],
+            ground: bytes[2],
+            containment: bytes[3],
+            cas: word(4),
+            pounds: word(8),
+            area: word(12),
+            wall: u16::from_be_bytes([bytes[16], bytes[17]]),
+            tenths: i16::from_be_bytes([bytes[18], bytes[19]]),
+            number: word(20),
+        }
+    }
+}
+
+/// Refuses with a fault unless a condition holds.
+fn demand(holds: bool, fault: Fault) -> Result<(), Fault> {
+    if holds {
+        Ok(())
+    } else {
+        Err(fault)
+    }
+}
+
+fn flammable<'p>(fields: &Fields, printed: &'p Printed) -> Result<Meaning<'p>, Fault> {
+    let Fields { state, ground, containment, area, wall, tenths, .. } = *fields;
+    let bare = (state, ground, containment) == (0, 0, 0) && (area, wall, tenths) == (0, 0, 0);
+    demand(bare, Fault::Form)?;
+    let substance = printed.flammable(fields.cas).ok_or(Fault::Substance)?;
+    demand(POUNDS.contains(&fields.pounds), Fault::Pounds)?;
+    Ok(Meaning::Flammable { substance, pounds: Pounds::new(fields.pounds) })
+}
+
+/// Checks 6 to 10 in their order: each stage settles one number for all fields before the next number is looked at.
+fn toxic<'p>(fields: &Fields, printed: &'p Printed) -> Result<ToxicCard<'p>, Fault> {
+    let (state, ground, containment) = form(fields)?;
+    let substance = printed.toxic(fields.cas).ok_or(Fault::Substance)?;
+    demand(POUNDS.contains(&fields.pounds), Fault::Pounds)?;
+    demand(in_range(fields, state, containment), Fault::Range)?;
+    demand(fits(&substance.phase, state, containment), Fault::Exhibit)?;
+    Ok(ToxicCard { substance, state, ground, containment, pounds: Pounds::new(fields.pounds) })
+}
+
+/// Check 6: the codes of bytes 1 to 3, and zero in each field that does not apply to them.
+fn form(fields: &Fields) -> Result<(State, Ground, Containment), Fault> {
+    let state = match (fields.state, fields.tenths) {
+        (1, 0) => State::Gas,
+        (2, 0) => State::Pressurised,
+        (3, 0) => State::Refrigerated,
+        (4, tenths) => State::Liquid(tenths),
+        _ => return Err(Fault::Form),
+    };
+    let ground = match fields.ground {
+        1 => Ground::Rural,
+        2 => Ground::Urban,
+        _ => return Err(Fault::Form),
+    };
+    let containment = match (fields.containment, fields.area, fields.wall) {
+        (0, 0, 0) => Containment::Open,
+        (1, area, wall) => Containment::Dike(Dike { area: SquareFeet::from_whole(area), wall: Wall(u64::from(wall)) }),
+        (2, floor, 0) => Containment::Building { floor: SquareFeet::from_whole(floor) },
+        _ => return Err(Fault::Form),
+    };
+    Ok((state, ground, containment))
+}
+
+/// Check 9. A field that does not apply was found zero by check 6.
+fn in_range(fields: &Fields, state: State, containment: Containment) -> bool {
+    let area_fits = containment == Containment::Open || AREA.contains(&fields.area);
+    let temperature_fits = !matches!(state, State::Liquid(_)) || TEMPERATURE.contains(&fields.tenths);
+    area_fits && WALL.contains(&fields.wall) && temperature_fits
+}
+
+/// Check 10, as far as no factor is read: the state suits the exhibit, and only what can pool is diked.
+fn fits(phase: &Phase, state: State, containment: Containment) -> bool {
+    let diked = matches!(containment, Containment::Dike(_));
+    match (phase, state) {
+        (Phase::Liquid(_), State::Liquid(_)) | (Phase::Gas, State::Refrigerated) => true,
+        (Phase::Gas, State::Gas | State::Pressurised) => !diked,
+        (Phase::Gas, State::Liquid(_)) | (Phase::Liquid(_), _) => false,
+    }
+}

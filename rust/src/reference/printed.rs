@@ -1,0 +1,532 @@
+//! The printed tables and exhibits, read once from the tab-separated files of `data/`, and how they are read.
+//!
+//! A file that is not of the printed form is a mistake of this repository and not of a register, so it panics.
+
+use super::card::Ground;
+use super::units::{Miles, Pounds, PoundsPerMinute};
+use std::sync::LazyLock;
+
+/// The number of the table for blasts.
+pub(super) const BLAST_TABLE: u8 = 13;
+
+const NEAREST: Miles = Miles::from_hundredths(10);
+const LIMIT: Miles = Miles::from_hundredths(2_500);
+
+/// The columns of Exhibit B-4 beside the one at 25 °C, which is a factor of 1.
+const TEMPERATURE_COLUMNS: [&str; 5] = ["tcf30", "tcf35", "tcf40", "tcf45", "tcf50"];
+/// The midpoints between the columns of Exhibit B-4, in tenths of a degree Celsius.
+const TEMPERATURE_CUTS: [i16; 5] = [275, 325, 375, 425, 475];
+
+static PRINTED: LazyLock<Printed> = LazyLock::new(Printed::read);
+
+/// All that is printed.
+pub fn printed() -> &'static Printed {
+    &PRINTED
+}
+
+/// The exhibits and the tables, with their entries in use.
+pub struct Printed {
+    toxics: Listed<Toxic>,
+    flammables: Listed<Flammable>,
+    quantities: Vec<u64>,
+    neutral: [RatioTable; 4],
+    dense: [RateTable; 4],
+    specific: [RateTable; 4],
+}
+
+/// Substances in the order of their CAS numbers, which stand apart so that a search touches little memory.
+struct Listed<S> {
+    cas: Vec<u32>,
+    substances: Vec<S>,
+}
+
+/// A row of Exhibit B-1 or B-2.
+pub struct Toxic {
+    /// CAS number without hyphens.
+    pub cas: u32,
+    /// DF, in hundredths.
+    pub density_factor: u64,
+    /// LFB, in millionths.
+    pub lfb: u64,
+    /// The endpoint, in hundred-thousandths of a mg/L.
+    pub endpoint: u64,
+    /// What the exhibit's worst-case column says.
+    pub plume: Plume,
+    /// A gas of B-1, or a liquid of B-2 with its factors.
+    pub phase: Phase,
+    /// The column of Tables 5 to 8 that is closest to the endpoint.
+    dense_column: usize,
+}
+
+/// Which of the toxic exhibits lists a substance.
+pub enum Phase {
+    /// Exhibit B-1.
+    Gas,
+    /// Exhibit B-2.
+    Liquid(LiquidFactors),
+}
+
+/// The factors of a liquid that is not at its boiling point.
+pub struct LiquidFactors {
+    /// LFA, in millionths.
+    pub lfa: u64,
+    /// The row of Exhibit B-4, from 25 °C on.
+    by_column: [Factor; 6],
+}
+
+/// An entry of Exhibit B-4.
+#[derive(Debug, Clone, Copy, PartialEq, Eq)]
+pub enum Factor {
+    /// TCF, in hundredths.
+    Times(u64),
+    /// LFB is printed instead of a factor.
+    UseBoiling,
+    /// Marked as without data.
+    NoData,
+}
+
+/// How a plume spreads.
+#[derive(Debug, Clone, Copy, PartialEq, Eq)]
+pub enum Plume {
+    /// Neutrally buoyant.
+    Neutral,
+    /// Heavier than air.
+    Dense,
+}
+
+/// A row of Table 13.
+pub struct Flammable {
+    /// CAS number without hyphens.
+    pub cas: u32,
+    by_quantity: Vec<Miles>,
+}
+
+/// A table for toxic releases, by its number; a substance's own table has a column for each ground.
+pub(super) enum Table {
+    Neutral(u8),
+    Dense(u8),
+    Specific(u8, Ground),
+}
+
+/// One of Tables 1 to 4.
+pub struct RatioTable {
+    /// The bounds that two ranges share, rising, in tenths.
+    bounds: Vec<u64>,
+    /// The entries in use, one more than the shared bounds.
+    in_use: Vec<Miles>,
+    /// Where the last range ends, unless it is open.
+    end: Option<u64>,
+}
+
+/// One of Tables 5 to 12.
+pub struct RateTable {
+    /// The rates of the rows, rising, in thousandths.
+    rates: Vec<u64>,
+    /// The midpoints of neighbouring rows, in thousandths.
+    cuts: Vec<u64>,
+    /// The entries in use, down each column.
+    in_use: Vec<Vec<Miles>>,
+}
+
+impl Printed {
+    /// The toxic substance of a CAS number.
+    pub fn toxic(&self, cas: u32) -> Option<&Toxic> {
+        self.toxics.find(cas)
+    }
+
+    /// The flammable substance of a CAS number.
+    pub fn flammable(&self, cas: u32) -> Option<&Flammable> {
+        self.flammables.find(cas)
+    }
+
+    /// All toxic substances.
+    pub fn toxics(&self) -> &[Toxic] {
+        &self.toxics.substances
+    }
+
+    /// All flammable substances.
+    pub fn flammables(&self) -> &[Flammable] {
+        &self.flammables.substances
+    }
+
+    /// The quantities of Table 13, in pounds.
+    pub fn quantities(&self) -> &[u64] {
+        &self.quantities
+    }
+
+    /// Tables 1 to 4.
+    pub fn neutral_tables(&self) -> &[RatioTable; 4] {
+        &self.neutral
+    }
+
+    /// Tables 5 to 8.
+    pub fn dense_tables(&self) -> &[RateTable; 4] {
+        &self.dense
+    }
+
+    /// Tables 9 to 12.
+    pub fn specific_tables(&self) -> &[RateTable; 4] {
+        &self.specific
+    }
+
+    /// Table 13 at the smallest printed quantity that is at least the card's.
+    pub(super) fn blast_distance(&self, substance: &Flammable, pounds: Pounds) -> Option<Miles> {
+        let column = self.quantities.partition_point(|&quantity| quantity < pounds.whole());
+        substance.by_quantity.get(column).copied()
+    }
+
+    fn read() -> Self {
+        let dense = [
+            Sheet::cut(include_str!("../../../data/table05.tsv")),
+            Sheet::cut(include_str!("../../../data/table06.tsv")),
+            Sheet::cut(include_str!("../../../data/table07.tsv")),
+            Sheet::cut(include_str!("../../../data/table08.tsv")),
+        ];
+        let blast = Sheet::cut(include_str!("../../../data/table13.tsv"));
+        Printed {
+            toxics: read_toxics(&shared_endpoints(&dense)),
+            flammables: read_flammables(&blast),
+            quantities: rising(blast.header[2..].iter().map(|cell| decimal(cell, 0)).collect()),
+            neutral: [
+                RatioTable::read(include_str!("../../../data/table01.tsv")),
+                RatioTable::read(include_str!("../../../data/table02.tsv")),
+                RatioTable::read(include_str!("../../../data/table03.tsv")),
+                RatioTable::read(include_str!("../../../data/table04.tsv")),
+            ],
+            dense: dense.map(|sheet| RateTable::read_dense(&sheet)),
+            specific: [
+                RateTable::read_specific(include_str!("../../../data/table09.tsv")),
+                RateTable::read_specific(include_str!("../../../data/table10.tsv")),
+                RateTable::read_specific(include_str!("../../../data/table11.tsv")),
+                RateTable::read_specific(include_str!("../../../data/table12.tsv")),
+            ],
+        }
+    }
+}
+
+impl Table {
+    pub(super) fn number(&self) -> u8 {
+        match *self {
+            Table::Neutral(number) | Table::Dense(number) | Table::Specific(number, _) => number,
+        }
+    }
+
+    /// The distance for a rate, or `None` beyond the table.
+    pub(super) fn distance(&self, printed: &Printed, rate: PoundsPerMinute, substance: &Toxic) -> Option<Miles> {
+        match *self {
+            Table::Neutral(number) => printed.neutral[usize::from(number) - 1].distance(rate, substance.endpoint),
+            Table::Dense(number) => printed.dense[usize::from(number) - 5].distance(rate, substance.dense_column),
+            Table::Specific(number, ground) => {
+                let column = match ground {
+                    Ground::Rural => 0,
+                    Ground::Urban => 1,
+                };
+                printed.specific[usize::from(number) - 9].distance(rate, column)
+            }
+        }
+    }
+}
+
+impl RatioTable {
+    /// The bounds that two ranges share, in tenths of (pounds per minute) / (mg/L).
+    pub fn bounds(&self) -> &[u64] {
+        &self.bounds
+    }
+
+    /// Rate / endpoint is compared with a bound by multiplying out: in the units held, the quotient reaches the bound
+    /// where rate × 1000 reaches bound × endpoint. A shared bound so belongs to the farther range.
+    fn distance(&self, rate: PoundsPerMinute, endpoint: u64) -> Option<Miles> {
+        let scaled = rate.thousandths() * 1_000;
+        match self.end {
+            Some(end) if scaled > end * endpoint => self.in_use.last().copied().filter(|&last| last == LIMIT),
+            _ => Some(self.in_use[self.bounds.partition_point(|bound| bound * endpoint <= scaled)]),
+        }
+    }
+
+    fn read(text: &'static str) -> Self {
+        let sheet = Sheet::cut(text);
+        let mut bounds = Vec::new();
+        let mut end = Some(0);
+        for row in &sheet.rows {
+            let (from, to) = match row[0].strip_prefix('>') {
+                Some(from) => (decimal(from, 1), None),
+                None => {
+                    let (from, to) = row[0].split_once(" - ").expect("a range");
+                    (decimal(from, 1), Some(decimal(to, 1)))
+                }
+            };
+            assert_eq!(end, Some(from), "each range begins where the last one ends");
+            bounds.push(from);
+            end = to;
+        }
+        // The first bound is the zero at which the first range begins.
+        bounds.remove(0);
+        RatioTable {
+            bounds: rising(bounds),
+            in_use: running_largest(sheet.rows.iter().map(|row| distance(row[1]))),
+            end,
+        }
+    }
+}
+
+impl RateTable {
+    /// The rates of the rows, in thousandths of a pound per minute.
+    pub fn rates(&self) -> &[u64] {
+        &self.rates
+    }
+
+    /// The midpoints of neighbouring rows, in thousandths of a pound per minute.
+    pub fn cuts(&self) -> &[u64] {
+        &self.cuts
+    }
+
+    /// The entry in use of the closest row, the larger at a midpoint; above the last row only 25 miles is an answer.
+    fn distance(&self, rate: PoundsPerMinute, column: usize) -> Option<Miles> {
+        let in_use = &self.in_use[column];
+        let (&last_rate, &last) = self.rates.last().zip(in_use.last())?;
+        if rate.thousandths() > last_rate {
+            return (last == LIMIT).then_some(LIMIT);
+        }
+        let row = self.cuts.partition_point(|&cut| cut <= rate.thousandths());
+        Some(in_use[row])
+    }
+
+    /// Entries in use of Tables 5 to 8: the largest at no greater rate and no lower endpoint.
+    fn read_dense(sheet: &Sheet) -> Self {
+        let mut table = Self::read_columns(sheet);
+        for left in (0..table.in_use.len() - 1).rev() {
+            let (columns, right) = table.in_use.split_at_mut(left + 1);
+            for (entry, higher_endpoint) in columns[left].iter_mut().zip(&right[0]) {
+                *entry = (*entry).max(*higher_endpoint);
+            }
+        }
+        table
+    }
+
+    fn read_specific(text: &'static str) -> Self {
+        let sheet = Sheet::cut(text);
+        assert_eq!(sheet.header, ["rate", "rural", "urban"]);
+        Self::read_columns(&sheet)
+    }
+
+    /// The table with each column read by itself: the largest at no greater rate.
+    fn read_columns(sheet: &Sheet) -> Self {
+        let rates = rising(sheet.rows.iter().map(|row| decimal(row[0], 3)).collect());
+        RateTable {
+            cuts: midpoints(&rates),
+            rates,
+            in_use: (1..sheet.header.len())
+                .map(|column| running_largest(sheet.rows.iter().map(|row| distance(row[column]))))
+                .collect(),
+        }
+    }
+}
+
+impl Flammable {
+    fn read(row: &[&str]) -> Self {
+        let by_quantity: Vec<Miles> = row[2..].iter().map(|cell| distance(cell)).collect();
+        assert!(by_quantity.is_sorted(), "the entries of Table 13 never fall along a row");
+        Flammable { cas: cas_number(row[0]), by_quantity }
+    }
+}
+
+impl LiquidFactors {
+    /// The entry of the closest column, the higher at a midpoint; temperatures under 25 °C read that column.
+    pub fn at(&self, tenths: i16) -> Factor {
+        self.by_column[TEMPERATURE_CUTS.partition_point(|&cut| cut <= tenths)]
+    }
+
+    fn read(lfa: u64, b4: &Sheet, b4_row: &[&str]) -> Self {
+        let mut by_column = [Factor::Times(100); 6];
+        for (entry, name) in by_column[1..].iter_mut().zip(TEMPERATURE_COLUMNS) {
+            *entry = match b4.cell(b4_row, name) {
+                "ND" => Factor::NoData,
+                "LFB" => Factor::UseBoiling,
+                factor => Factor::Times(decimal(factor, 2)),
+            };
+        }
+        LiquidFactors { lfa, by_column }
+    }
+}
+
+impl Toxic {
+    fn read(sheet: &Sheet, row: &[&str], plume_column: &str, phase: Phase, endpoints: &[u64]) -> Self {
+        let endpoint = decimal(sheet.cell(row, "endpoint"), 5);
+        Toxic {
+            cas: cas_number(sheet.cell(row, "cas")),
+            density_factor: decimal(sheet.cell(row, "df"), 2),
+            lfb: decimal(sheet.cell(row, "lfb"), 6),
+            endpoint,
+            plume: match sheet.cell(row, plume_column) {
+                "Dense" => Plume::Dense,
+                "Buoyant" => Plume::Neutral,
+                other => panic!("{other} is no kind of plume"),
+            },
+            phase,
+            dense_column: closest_endpoint(endpoints, endpoint),
+        }
+    }
+}
+
+impl<S> Listed<S> {
+    fn new(mut substances: Vec<S>, cas_of: impl Fn(&S) -> u32) -> Self {
+        substances.sort_by_key(&cas_of);
+        let cas: Vec<u32> = substances.iter().map(cas_of).collect();
+        assert!(cas.is_sorted_by(|a, b| a < b), "a CAS number is listed twice");
+        Listed { cas, substances }
+    }
+
+    fn find(&self, cas: u32) -> Option<&S> {
+        let place = self.cas.binary_search(&cas).ok()?;
+        self.substances.get(place)
+    }
+}
+
+fn read_toxics(endpoints: &[u64]) -> Listed<Toxic> {
+    let b1 = Sheet::cut(include_str!("../../../data/b1.tsv"));
+    let b2 = Sheet::cut(include_str!("../../../data/b2.tsv"));
+    let b4 = Sheet::cut(include_str!("../../../data/b4.tsv"));
+    let gases = b1.rows.iter().map(|row| Toxic::read(&b1, row, "reference_table", Phase::Gas, endpoints));
+    let liquids = b2.rows.iter().map(|row| {
+        let cas = b2.cell(row, "cas");
+        let b4_row = b4.rows.iter().find(|row| b4.cell(row, "cas") == cas);
+        let b4_row = b4_row.expect("Exhibit B-4 has a row for each liquid");
+        let factors = LiquidFactors::read(decimal(b2.cell(row, "lfa"), 6), &b4, b4_row);
+        Toxic::read(&b2, row, "worst_case_table", Phase::Liquid(factors), endpoints)
+    });
+    Listed::new(gases.chain(liquids).collect(), |toxic| toxic.cas)
+}
+
+fn read_flammables(blast: &Sheet) -> Listed<Flammable> {
+    let rows = blast.rows.iter().map(|row| Flammable::read(row));
+    Listed::new(rows.collect(), |flammable| flammable.cas)
+}
+
+/// The endpoints over Tables 5 to 8, in hundred-thousandths: the four tables print the same.
+fn shared_endpoints(dense: &[Sheet; 4]) -> Vec<u64> {
+    let [first, others @ ..] = dense;
+    for other in others {
+        assert_eq!(first.header, other.header, "Tables 5 to 8 share their endpoints");
+    }
+    rising(first.header[1..].iter().map(|cell| decimal(cell, 5)).collect())
+}
+
+/// The column of the closest endpoint, the smaller at a midpoint; the midpoint is doubled to stay whole.
+fn closest_endpoint(endpoints: &[u64], endpoint: u64) -> usize {
+    endpoints.windows(2).take_while(|pair| pair[0] + pair[1] < 2 * endpoint).count()
+}
+
+/// A file of `data/`: comment lines on top, then a header, then rows of as many cells.
+struct Sheet {
+    header: Vec<&'static str>,
+    rows: Vec<Vec<&'static str>>,
+}
+
+impl Sheet {
+    fn cut(text: &'static str) -> Self {
+        let mut lines =
+            text.lines().skip_while(|line| line.starts_with("# ")).map(|line| line.split('\t').collect::<Vec<_>>());
+        let header = lines.next().expect("a header line");
+        let rows: Vec<_> = lines.collect();
+        for row in &rows {
+            assert_eq!(row.len(), header.len(), "a cell for each column in {row:?}");
+        }
+        Sheet { header, rows }
+    }
+
+    fn cell<'r>(&self, row: &[&'r str], column: &str) -> &'r str {
+        let place = self.header.iter().position(|name| *name == column);
+        row[place.unwrap_or_else(|| panic!("a column {column}"))]
+    }
+}
+
+/// A printed figure times 10^`places`, which must make it whole.
+fn decimal(cell: &str, places: usize) -> u64 {
+    let (whole, fraction) = cell.split_once('.').unwrap_or((cell, ""));
+    assert!(fraction.len() <= places, "{cell} has more than {places} decimals");
+    let digits = whole.replace(',', "") + fraction + &"0".repeat(places - fraction.len());
+    digits.parse().unwrap_or_else(|_| panic!("{cell} is no figure"))
+}
+
+/// A printed distance, with the marks for a near and a far one; the only blanks are near ones, in Table 10.
+fn distance(cell: &str) -> Miles {
+    match cell {
+        "#" | "<0.1" | "<0.1*" | "" => NEAREST,
+        "*" | "**" | ">25" | ">25*" => LIMIT,
+        figure => {
+            let hundredths = decimal(figure, 2);
+            assert!(hundredths <= u64::from(LIMIT.hundredths()), "{cell} is beyond 25 miles");
+            Miles::from_hundredths(hundredths as u16)
+        }
+    }
+}
+
+fn cas_number(cell: &str) -> u32 {
+    let digits = cell.replace('-', "");
+    digits.parse().unwrap_or_else(|_| panic!("{cell} is no CAS number"))
+}
+
+/// The largest entry up to each place, so that a misprint can't shorten a ring.
+fn running_largest(entries: impl Iterator<Item = Miles>) -> Vec<Miles> {
+    entries
+        .scan(Miles::from_hundredths(0), |largest, entry| {
+            *largest = entry.max(*largest);
+            Some(*largest)
+        })
+        .collect()
+}
+
+/// Rates are whole pounds per minute, so their midpoints are whole in thousandths.
+fn midpoints(rates: &[u64]) -> Vec<u64> {
+    rates.windows(2).map(|pair| (pair[0] + pair[1]) / 2).collect()
+}
+
+fn rising(figures: Vec<u64>) -> Vec<u64> {
+    assert!(figures.is_sorted_by(|a, b| a < b), "{figures:?} do not rise");
+    figures
+}
+
+/// Rules that no printed figure puts to the test, on figures made up for it.
+#[cfg(test)]
+mod tests {
+    use super::*;
+
+    const DENSE: &str = "rate\t0.01\t0.02\t0.05\n1\t0.3\t0.2\t#\n2\t0.4\t0.9\t0.1\n5\t0.5\t0.3\t0.2\n";
+
+    fn rate(thousandths: u64) -> PoundsPerMinute {
+        PoundsPerMinute::from_thousandths(thousandths)
+    }
+
+    fn miles(hundredths: u16) -> Option<Miles> {
+        Some(Miles::from_hundredths(hundredths))
+    }
+
+    #[test]
+    fn a_misprint_shortens_no_ring() {
+        // The 0.9 counts for greater rates and for lower endpoints, and for nothing else.
+        let table = RateTable::read_dense(&Sheet::cut(DENSE));
+        let read = |column: usize| [1_000, 2_000, 5_000].map(|thousandths| table.distance(rate(thousandths), column));
+        assert_eq!(read(0), [miles(30), miles(90), miles(90)]);
+        assert_eq!(read(1), [miles(20), miles(90), miles(90)]);
+        assert_eq!(read(2), [miles(10), miles(10), miles(20)]);
+        let ranges = RatioTable::read("range\tdistance\n0 - 2\t0.5\n2 - 4\t0.1\n>4\t>25*\n");
+        assert_eq!(ranges.in_use, [50, 50, 2_500].map(Miles::from_hundredths));
+    }
+
+    #[test]
+    fn above_a_closed_last_range_only_25_miles_is_answered() {
+        // An endpoint of 1 mg/L, so that the ratio is the rate.
+        let read = |table: &RatioTable, thousandths: u64| table.distance(rate(thousandths), 100_000);
+        let near = RatioTable::read("range\tdistance\n0 - 2\t0.1\n2 - 4\t0.3\n");
+        assert_eq!([1_999, 2_000, 4_000, 4_001].map(|r| read(&near, r)), [miles(10), miles(30), miles(30), None]);
+        let far = RatioTable::read("range\tdistance\n0 - 2\t0.1\n2 - 4\t25\n");
+        assert_eq!(read(&far, 4_001), miles(2_500));
+    }
+
+    #[test]
+    fn the_smaller_endpoint_is_read_at_a_midpoint() {
+        let endpoints = [1_000, 2_000, 5_000];
+        let column = |endpoint: u64| closest_endpoint(&endpoints, endpoint);
+        assert_eq!([1, 1_500, 1_501, 3_500, 3_501, 90_000].map(column), [0, 0, 1, 1, 2, 2]);
+    }
+}

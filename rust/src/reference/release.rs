@@ -1,0 +1,183 @@
+//! Pool area, route, rate and choice of table of a toxic card.
+
+use super::card::{Containment, Dike, Ground, State, ToxicCard};
+use super::printed::{Factor, Phase, Plume, Table, Toxic};
+use super::units::{Pounds, PoundsPerMinute, SquareFeet};
+use super::Fault;
+
+const AMMONIA: u32 = 7_664_417;
+const CHLORINE: u32 = 7_782_505;
+const SULFUR_DIOXIDE: u32 = 7_446_095;
+
+/// A liquid above this, in tenths of a degree Celsius, evaporates as at its boiling point.
+const HOTTEST_COLUMN: i16 = 500;
+
+/// A temperature factor of 1, in hundredths.
+const ONE: u64 = 100;
+
+/// The route by which a card's substance comes out, with its number.
+#[derive(Debug, Clone, Copy, PartialEq, Eq)]
+pub enum Route {
+    Gas = 1,
+    Pool = 2,
+    Blast = 3,
+}
+
+pub struct Release {
+    pub route: Route,
+    pub rate: PoundsPerMinute,
+    pub span: Span,
+}
+
+/// Which of the generic tables a release's duration selects.
+#[derive(Debug, Clone, Copy, PartialEq, Eq)]
+pub enum Span {
+    TenMinutes,
+    SixtyMinutes,
+}
+
+/// How fast a square foot of pool evaporates.
+#[derive(Clone, Copy)]
+struct Evaporation {
+    /// LFA or LFB, in millionths.
+    liquid_factor: u64,
+    /// TCF, in hundredths.
+    temperature_factor: u64,
+}
+
+impl Evaporation {
+    fn boiling(substance: &Toxic) -> Self {
+        Evaporation { liquid_factor: substance.lfb, temperature_factor: ONE }
+    }
+}
+
+impl ToxicCard<'_> {
+    /// Route and rate. Fails only where the factor to be read is marked as without data.
+    pub fn release(&self) -> Result<Release, Fault> {
+        Ok(match self.evaporation()? {
+            None => self.gas_release(),
+            Some(evaporation) => self.pool_release(evaporation),
+        })
+    }
+
+    /// How the substance evaporates, or `None` if it leaves as a gas over ten minutes.
+    fn evaporation(&self) -> Result<Option<Evaporation>, Fault> {
+        match (self.state, &self.substance.phase, self.containment) {
+            (State::Liquid(tenths), Phase::Liquid(factors), _) => {
+                if tenths > HOTTEST_COLUMN {
+                    return Ok(Some(Evaporation::boiling(self.substance)));
+                }
+                match factors.at(tenths) {
+                    Factor::Times(temperature_factor) => {
+                        Ok(Some(Evaporation { liquid_factor: factors.lfa, temperature_factor }))
+                    }
+                    Factor::UseBoiling => Ok(Some(Evaporation::boiling(self.substance))),
+                    Factor::NoData => Err(Fault::Exhibit),
+                }
+            }
+            // In a dike larger than its full area, a refrigerated gas lies shallow and leaves at once.
+            (State::Refrigerated, _, Containment::Dike(dike)) if self.full_area() > dike.area => {
+                Ok(Some(Evaporation::boiling(self.substance)))
+            }
+            _ => Ok(None),
+        }
+    }
+
+    fn gas_release(&self) -> Release {
+        // Thousandths of pounds / 10, and of pounds / 10 × 0.55: both whole, so nothing is rounded.
+        let thousandths_a_pound = match self.containment {
+            Containment::Building { .. } => 55,
+            Containment::Open | Containment::Dike(_) => 100,
+        };
+        Release {
+            route: Route::Gas,
+            rate: PoundsPerMinute::from_thousandths(self.pounds.whole() * thousandths_a_pound),
+            span: Span::TenMinutes,
+        }
+    }
+
+    fn pool_release(&self, evaporation: Evaporation) -> Release {
+        let sheltered = matches!(self.containment, Containment::Building { .. });
+        let rate = pool_rate(evaporation, self.pool_area(), sheltered);
+        Release { route: Route::Pool, rate, span: span(self.pounds, rate) }
+    }
+
+    /// Pounds × DF: exact, since DF has two decimals and areas are held in hundredths.
+    fn full_area(&self) -> SquareFeet {
+        SquareFeet::from_hundredths(self.pounds.whole() * self.substance.density_factor)
+    }
+
+    fn pool_area(&self) -> SquareFeet {
+        let full = self.full_area();
+        match self.containment {
+            Containment::Open => full,
+            Containment::Building { floor } => full.min(floor),
+            Containment::Dike(dike) if full <= dike.area => full,
+            Containment::Dike(dike) => full.min(diked_area(full, dike)),
+        }
+    }
+
+    /// The table to be read, given the duration that a generic one depends on.
+    pub fn table(&self, span: Span) -> Table {
+        match self.substance.cas {
+            AMMONIA if self.state == State::Pressurised => Table::Specific(9, self.ground),
+            AMMONIA => Table::Specific(10, self.ground),
+            CHLORINE => Table::Specific(11, self.ground),
+            SULFUR_DIOXIDE => Table::Specific(12, self.ground),
+            _ => {
+                let place = match (self.ground, span) {
+                    (Ground::Rural, Span::TenMinutes) => 0,
+                    (Ground::Rural, Span::SixtyMinutes) => 1,
+                    (Ground::Urban, Span::TenMinutes) => 2,
+                    (Ground::Urban, Span::SixtyMinutes) => 3,
+                };
+                match self.plume() {
+                    Plume::Neutral => Table::Neutral(1 + place),
+                    Plume::Dense => Table::Dense(5 + place),
+                }
+            }
+        }
+    }
+
+    /// A liquefied gas comes out cold or with droplets, so it is dense whatever the exhibit says of the gas.
+    fn plume(&self) -> Plume {
+        match self.state {
+            State::Pressurised | State::Refrigerated => Plume::Dense,
+            State::Gas | State::Liquid(_) => self.substance.plume,
+        }
+    }
+}
+
+/// The area of a dike that is smaller than the full area, with what runs over its wall, rounded up.
+///
+/// The paper's two volumes are multiplied by 100,000 to be whole: full area × 0.033 is then 33 × its hundredths, and
+/// diked area × wall 10 × their hundredths.
+fn diked_area(full: SquareFeet, dike: Dike) -> SquareFeet {
+    let diked = dike.area.hundredths();
+    let spilled = 33 * full.hundredths();
+    let held = 10 * diked * dike.wall.0;
+    let overflow = spilled.saturating_sub(held).div_ceil(33);
+    SquareFeet::from_hundredths(diked + overflow)
+}
+
+/// 1.4 × LF × area × TCF, and × 0.1 in a building, rounded up to thousandths.
+///
+/// In the units held that is 14 × LF × area × TCF / 10^8. Halved above and below it stays under 2^64 for every factor
+/// and quantity that the paper allows: 7 × 10^6 × 2·10^9 × 10^3.
+fn pool_rate(evaporation: Evaporation, area: SquareFeet, sheltered: bool) -> PoundsPerMinute {
+    let product = 7 * evaporation.liquid_factor * area.hundredths() * evaporation.temperature_factor;
+    PoundsPerMinute::from_thousandths(if sheltered {
+        product.div_ceil(500_000_000)
+    } else {
+        product.div_ceil(50_000_000)
+    })
+}
+
+/// Pounds / rate is at most 10 minutes, or not.
+fn span(pounds: Pounds, rate: PoundsPerMinute) -> Span {
+    if pounds.whole() * 1_000 <= rate.thousandths() * 10 {
+        Span::TenMinutes
+    } else {
+        Span::SixtyMinutes
+    }
+}

@@ -1,0 +1,244 @@
+//! Document 01's listing, refusals and cards to try, and the guidance's own examples.
+
+use super::{answer, listing, Accepted, Farthest, Refused, ANSWER_LEN, MAX_CARDS, MAX_LEN};
+use crate::samples::{register, Card};
+
+const AMMONIA: u32 = 7_664_417;
+const BROMINE: u32 = 7_726_956;
+const CHLORINE: u32 = 7_782_505;
+const SULFUR_DIOXIDE: u32 = 7_446_095;
+const PROPANE: u32 = 74_986;
+
+const RURAL: u8 = 1;
+const URBAN: u8 = 2;
+
+/// A toxic card in the open, numbered 1.
+fn toxic(cas: u32, state: u8, ground: u8, pounds: u32) -> Card {
+    Card { kind: 1, state, ground, cas, pounds, number: 1, ..Card::default() }
+}
+
+/// A flammable card, numbered 1.
+fn flammable(cas: u32, pounds: u32) -> Card {
+    Card { kind: 2, cas, pounds, number: 1, ..Card::default() }
+}
+
+fn diked(card: Card, area: u32, wall: u16) -> Card {
+    Card { containment: 1, area, wall, ..card }
+}
+
+fn in_building(card: Card, area: u32) -> Card {
+    Card { containment: 2, area, ..card }
+}
+
+fn at(card: Card, tenths: i16) -> Card {
+    Card { tenths, ..card }
+}
+
+fn numbered(card: Card, number: u32) -> Card {
+    Card { number, ..card }
+}
+
+fn chlorine(ground: u8, pounds: u32) -> Card {
+    toxic(CHLORINE, 2, ground, pounds)
+}
+
+/// Card 12 of the example, in the open and numbered 1.
+fn bromine() -> Card {
+    at(toxic(BROMINE, 4, URBAN, 20_000), 250)
+}
+
+/// Route, table, rate and miles of a single card, as its listing prints them.
+fn line(card: Card) -> String {
+    let text = listing(&register(&[numbered(card, 1)]));
+    match text.lines().next().and_then(|line| line.strip_prefix("1 ")) {
+        Some(answer) => answer.to_string(),
+        None => text,
+    }
+}
+
+/// The refusal of a register with a buffer that is long enough for any.
+fn refusal(bytes: &[u8]) -> Option<(u8, u32)> {
+    let refused = answer(bytes, &mut [0; MAX_CARDS * ANSWER_LEN]).err();
+    refused.map(|Refused { number, place }| (number, place))
+}
+
+fn refusal_of(card: Card) -> Option<(u8, u32)> {
+    refusal(&register(&[card]))
+}
+
+fn example() -> Vec<u8> {
+    register(&[
+        numbered(chlorine(URBAN, 2_500), 11),
+        numbered(diked(bromine(), 100, 400), 12),
+        numbered(flammable(PROPANE, 10_000), 13),
+    ])
+}
+
+#[test]
+fn the_example_is_listed() {
+    assert_eq!(example().len(), 79);
+    assert_eq!(
+        listing(&example()),
+        "11 1 11 250.000 1.50\n12 2 8 10.220 1.80\n13 3 13 0.000 0.20\nT 12 1.80\nF 13 0.20\n"
+    );
+}
+
+#[test]
+fn the_example_is_answered_and_the_bytes_beyond_stay() {
+    let mut out = [0xa5; 50];
+    let accepted = answer(&example(), &mut out).expect("an accepted register");
+    let toxic = Some(Farthest { card: 12, miles: 180 });
+    let flammable = Some(Farthest { card: 13, miles: 20 });
+    assert_eq!(accepted, Accepted { toxic, flammable });
+    #[rustfmt::skip]
+    let expected = [
+        0, 0, 0, 11, 1, 11, 0, 0, 0, 0, 0, 3, 0xd0, 0x90, 0, 150,
+        0, 0, 0, 12, 2, 8, 0, 0, 0, 0, 0, 0, 0x27, 0xec, 0, 180,
+        0, 0, 0, 13, 3, 13, 0, 0, 0, 0, 0, 0, 0, 0, 0, 20,
+        0xa5, 0xa5,
+    ];
+    assert_eq!(out, expected);
+}
+
+#[test]
+fn a_listing_tells_refusals_and_long_inputs() {
+    assert_eq!(listing(&[]), "refused 1 at 0\n");
+    assert_eq!(listing(&[0; MAX_LEN]), "refused 1 at 0\n");
+    assert_eq!(listing(&[0; MAX_LEN + 1]), "too long\n");
+    let second_lacks_pounds = [chlorine(RURAL, 1), numbered(chlorine(RURAL, 0), 2)];
+    assert_eq!(listing(&register(&second_lacks_pounds)), "refused 8 at 1\n");
+    let two_propanes = [flammable(PROPANE, 20_001), numbered(flammable(PROPANE, 20_001), 2)];
+    assert_eq!(listing(&register(&two_propanes)), "1 3 13 0.000 0.30\n2 3 13 0.000 0.30\nT none\nF 1 0.30\n");
+}
+
+#[test]
+fn the_examples_of_refusals() {
+    assert_eq!(refusal(&[0, 0, 0, 8, 1, 0, 0]), Some((1, 0)));
+    assert_eq!(refusal(&[0, 0, 0, 7, 2, 0, 0]), Some((2, 0)));
+    assert_eq!(refusal(&[0, 0, 0, 7, 1, 0, 1]), Some((3, 0)));
+    let four_four = [numbered(chlorine(RURAL, 1), 4), numbered(chlorine(RURAL, 1), 4)];
+    assert_eq!(refusal(&register(&four_four)), Some((5, 1)));
+    assert_eq!(refusal_of(Card { kind: 3, ..chlorine(RURAL, 1) }), Some((6, 0)));
+    assert_eq!(refusal_of(toxic(PROPANE, 1, RURAL, 1)), Some((7, 0)));
+    assert_eq!(refusal_of(chlorine(RURAL, 0)), Some((8, 0)));
+    assert_eq!(refusal_of(diked(bromine(), 100, 10_001)), Some((9, 0)));
+    assert_eq!(refusal_of(toxic(CHLORINE, 4, RURAL, 1)), Some((10, 0)));
+    assert_eq!(refusal_of(toxic(AMMONIA, 3, URBAN, 7_500_010)), Some((11, 0)));
+}
+
+#[test]
+fn a_short_buffer_is_refused_and_no_refusal_changes_it() {
+    let mut out = [0xa5; ANSWER_LEN];
+    let one_card = register(&[chlorine(RURAL, 1)]);
+    let refused = answer(&one_card, &mut out[1..]);
+    assert_eq!(refused, Err(Refused { number: 4, place: 0 }));
+    // The first card is sound, the second is not: nothing of the first may be written.
+    let two_cards = register(&[chlorine(RURAL, 1), numbered(chlorine(RURAL, 0), 2)]);
+    let mut longer = [0xa5; 2 * ANSWER_LEN];
+    assert_eq!(answer(&two_cards, &mut longer), Err(Refused { number: 8, place: 1 }));
+    assert!(out.iter().chain(&longer).all(|&byte| byte == 0xa5));
+}
+
+#[test]
+fn a_field_that_must_be_zero_is_6_and_an_area_of_zero_9() {
+    assert_eq!(refusal_of(Card { area: 1, ..bromine() }), Some((6, 0)));
+    assert_eq!(refusal_of(Card { wall: 1, ..in_building(bromine(), 100) }), Some((6, 0)));
+    assert_eq!(refusal_of(at(chlorine(RURAL, 1), 250)), Some((6, 0)));
+    assert_eq!(refusal_of(Card { ground: RURAL, ..flammable(PROPANE, 1) }), Some((6, 0)));
+    assert_eq!(refusal_of(diked(bromine(), 0, 400)), Some((9, 0)));
+    assert_eq!(refusal_of(in_building(bromine(), 0)), Some((9, 0)));
+    assert_eq!(refusal_of(at(bromine(), -501)), Some((9, 0)));
+    assert_eq!(refusal_of(at(bromine(), -500)), None);
+    assert_eq!(refusal_of(at(bromine(), 3_001)), Some((9, 0)));
+}
+
+#[test]
+fn the_lower_number_is_found_first() {
+    let wrong_in_all = Card { number: 0, state: 9, cas: 1, pounds: 0, ..diked(bromine(), 0, 10_001) };
+    let mended = [
+        (5, wrong_in_all),
+        (6, Card { number: 1, ..wrong_in_all }),
+        (7, Card { number: 1, state: 1, tenths: 0, ..wrong_in_all }),
+        (8, Card { number: 1, state: 1, tenths: 0, cas: BROMINE, ..wrong_in_all }),
+        (9, Card { number: 1, state: 1, tenths: 0, cas: BROMINE, pounds: 1, ..wrong_in_all }),
+        (10, Card { number: 1, state: 1, tenths: 0, cas: BROMINE, pounds: 1, area: 1, wall: 1, ..wrong_in_all }),
+    ];
+    for (number, card) in mended {
+        assert_eq!(refusal_of(card), Some((number, 0)));
+    }
+}
+
+#[test]
+fn no_cards_are_accepted() {
+    assert_eq!(answer(&register(&[]), &mut []), Ok(Accepted::default()));
+    assert_eq!(listing(&register(&[])), "T none\nF none\n");
+}
+
+#[test]
+fn gases_to_try() {
+    assert_eq!(line(chlorine(RURAL, 2_249)), "1 11 224.900 3.00");
+    assert_eq!(line(chlorine(RURAL, 2_250)), "1 11 225.000 3.40");
+    assert_eq!(line(in_building(chlorine(RURAL, 1_000), 1)), "1 11 55.000 1.70");
+    assert_eq!(line(in_building(chlorine(URBAN, 1_000), 1)), "1 11 55.000 0.70");
+    assert_eq!(line(toxic(SULFUR_DIOXIDE, 2, RURAL, 95_000)), "1 12 9500.000 25.00");
+    assert_eq!(line(toxic(AMMONIA, 3, URBAN, 7_500_000)), "1 10 750000.000 13.00");
+}
+
+#[test]
+fn bromine_to_try() {
+    assert_eq!(line(bromine()), "2 8 327.040 11.00");
+    assert_eq!(line(diked(bromine(), 100, 400)), "2 8 10.220 1.80");
+    // An area of 269.70 gives this rate, and the full area of 3,200 the one of an open pool.
+    assert_eq!(line(diked(bromine(), 100, 100)), "2 8 27.564 3.40");
+    assert_eq!(line(diked(bromine(), 100, 1)), "2 8 327.040 11.00");
+    assert_eq!(line(in_building(bromine(), 100)), "2 8 1.022 0.40");
+}
+
+#[test]
+fn propane_to_try() {
+    assert_eq!(line(flammable(PROPANE, 20_000)), "3 13 0.000 0.20");
+    assert_eq!(line(flammable(PROPANE, 20_001)), "3 13 0.000 0.30");
+    assert_eq!(refusal_of(flammable(PROPANE, 2_000_000)), None);
+    assert_eq!(refusal_of(flammable(PROPANE, 2_000_001)), Some((11, 0)));
+}
+
+#[test]
+fn temperatures_read_the_closest_column() {
+    // LFA 0.073 × 100 sq ft × 1.4 = 10.22 at factor 1; TCF 1.2 at 30 °C, 2.5 at 50 °C; LFB 0.23 above.
+    let dike = diked(bromine(), 100, 400);
+    assert_eq!(line(at(dike, 274)), "2 8 10.220 1.80");
+    assert_eq!(line(at(dike, 275)), "2 8 12.264 1.80");
+    assert_eq!(line(at(dike, 500)), "2 8 25.550 3.40");
+    assert_eq!(line(at(dike, 501)), "2 8 32.200 3.40");
+    // Furan has LFB printed at 35 °C, acrylyl chloride no data from 30 °C on.
+    const FURAN: u32 = 110_009;
+    const ACRYLYL_CHLORIDE: u32 = 814_686;
+    assert_eq!(line(at(toxic(FURAN, 4, RURAL, 1_000), 325)), "2 5 101.920 12.00");
+    assert_eq!(refusal_of(at(toxic(ACRYLYL_CHLORIDE, 4, RURAL, 1_000), 274)), None);
+    assert_eq!(refusal_of(at(toxic(ACRYLYL_CHLORIDE, 4, RURAL, 1_000), 275)), Some((10, 0)));
+    assert_eq!(refusal_of(at(toxic(ACRYLYL_CHLORIDE, 4, RURAL, 1_000), 501)), None);
+}
+
+/// The guidance rounds what it prints; these are the exact values of the same cards.
+#[test]
+fn the_examples_of_the_guidance() {
+    const ACRYLONITRILE: u32 = 107_131;
+    const DIBORANE: u32 = 19_287_457;
+    const ETHYLENE_OXIDE: u32 = 75_218;
+    const ETHYLENE: u32 = 74_851;
+    // Examples 1 and 13, 2: diborane.
+    assert_eq!(line(toxic(DIBORANE, 1, URBAN, 2_500)), "1 3 250.000 8.10");
+    assert!(line(in_building(toxic(DIBORANE, 1, URBAN, 2_500), 1)).starts_with("1 3 137.500 "));
+    // Example 3: refrigerated chlorine in a dike that holds it.
+    assert!(line(diked(toxic(CHLORINE, 3, RURAL, 50_000), 275, 10_000)).starts_with("2 11 73.150 "));
+    // Examples 4 and 15, 5: acrylonitrile.
+    assert_eq!(line(at(toxic(ACRYLONITRILE, 4, URBAN, 20_000), 250)), "2 8 307.440 2.90");
+    assert!(line(at(toxic(ACRYLONITRILE, 4, URBAN, 20_000), 770)).starts_with("2 8 1878.800 "));
+    // Example 9: bromine at 35 °C.
+    assert!(line(at(diked(bromine(), 100, 400), 350)).starts_with("2 8 15.330 "));
+    // Example 14: ethylene oxide.
+    assert_eq!(line(toxic(ETHYLENE_OXIDE, 1, RURAL, 10_000)), "1 5 1000.000 3.60");
+    // Examples 16 and 18: propane and ethylene.
+    assert_eq!(line(flammable(PROPANE, 50_000)), "3 13 0.000 0.30");
+    assert_eq!(line(flammable(ETHYLENE, 10_000)), "3 13 0.000 0.20");
+}

@@ -1,0 +1,398 @@
+//! The proved library and the reference, compared on registers made from a fixed seed.
+//!
+//! Every byte of the lent buffer, of the bytes around it and of the two farthest words is compared, on acceptance and
+//! on refusal. Run with `cargo test --release --test differential -- --nocapture` to see the counts.
+
+use rings_second::proved;
+use rings_second::reference::printed::{printed, Factor, Phase, Toxic};
+use rings_second::reference::{self, Farthest, Refused, ANSWER_LEN, HEADER_LEN, MAX_CARDS};
+use rings_second::samples::{self, Card, Rng, MAX_AREA, MAX_POUNDS, MAX_WALL};
+
+const SEED: u64 = 0x0155_0b99_0009;
+const RANDOM_REGISTERS: usize = 1_000_000;
+const LEAST_OF_EACH: usize = 1_000;
+
+/// Bytes kept on either side of a lent buffer, to catch a write outside it.
+const MARGIN: usize = 32;
+
+#[test]
+fn the_proved_library_and_the_reference_agree() {
+    let mut comparison = Comparison::new(SEED);
+    sweep_toxics(&mut comparison);
+    sweep_temperatures(&mut comparison);
+    sweep_flammables(&mut comparison);
+    for _ in 0..RANDOM_REGISTERS {
+        let (register, buffer_len) = random_case(&mut comparison.rng);
+        comparison.compare(&register, buffer_len);
+    }
+    comparison.report();
+}
+
+/// The typed call says the same as the words: a few thousand registers show each of its cases.
+#[test]
+fn the_typed_call_agrees_too() {
+    let mut rng = Rng::new(SEED);
+    for _ in 0..10_000 {
+        let (register, buffer_len) = random_case(&mut rng);
+        let (mut ours, mut theirs) = (vec![0; buffer_len], vec![0; buffer_len]);
+        assert_eq!(
+            reference::answer(&register, &mut ours),
+            proved::answer(&register, &mut theirs),
+            "the register is {}",
+            hex(&register)
+        );
+        assert_eq!(ours, theirs);
+    }
+}
+
+/// Compares registers one by one and counts what it met.
+struct Comparison {
+    rng: Rng,
+    ours: Vec<u8>,
+    theirs: Vec<u8>,
+    accepted: usize,
+    refused: [usize; 12],
+    routes: [usize; 4],
+    tables: [usize; 14],
+}
+
+impl Comparison {
+    fn new(seed: u64) -> Self {
+        Comparison {
+            rng: Rng::new(seed),
+            ours: Vec::new(),
+            theirs: Vec::new(),
+            accepted: 0,
+            refused: [0; 12],
+            routes: [0; 4],
+            tables: [0; 14],
+        }
+    }
+
+    /// Calls both with a buffer of a length, filled with the same random bytes, and panics where they differ.
+    fn compare(&mut self, register: &[u8], buffer_len: usize) {
+        self.fill(buffer_len);
+        let lent = MARGIN..MARGIN + buffer_len;
+        let untouched = (self.rng.bits(), self.rng.bits());
+
+        let ours = reference::answer(register, &mut self.ours[lent.clone()]);
+        let expected = words(ours, untouched);
+
+        let (mut toxic, mut flammable) = untouched;
+        let code = proved::answer_words(register, &mut self.theirs[lent.clone()], &mut toxic, &mut flammable);
+        let met = (code, toxic, flammable);
+
+        if expected != met || self.ours != self.theirs {
+            let place = self.ours.iter().zip(&self.theirs).position(|(a, b)| a != b);
+            panic!(
+                "they disagree on a buffer of {buffer_len} bytes and the register\n{}\n\
+                 reference: {expected:x?} ({ours:?})\nproved:    {met:x?}\n\
+                 first byte that differs (0 is the buffer's first): {:?}\n",
+                hex(register),
+                place.map(|place| place as i64 - MARGIN as i64),
+            );
+        }
+        self.count(ours.err(), register.len());
+    }
+
+    fn fill(&mut self, buffer_len: usize) {
+        self.ours.clear();
+        while self.ours.len() < buffer_len + 2 * MARGIN {
+            self.ours.extend(self.rng.bits().to_ne_bytes());
+        }
+        self.theirs.clone_from(&self.ours);
+    }
+
+    fn count(&mut self, refused: Option<Refused>, register_len: usize) {
+        match refused {
+            Some(Refused { number, .. }) => self.refused[usize::from(number)] += 1,
+            None => {
+                self.accepted += 1;
+                let cards = (register_len - HEADER_LEN) / reference::CARD_LEN;
+                for answer in self.ours[MARGIN..].chunks_exact(ANSWER_LEN).take(cards) {
+                    self.routes[usize::from(answer[4])] += 1;
+                    self.tables[usize::from(answer[5])] += 1;
+                }
+            }
+        }
+    }
+
+    fn report(&self) {
+        let registers = self.accepted + self.refused.iter().sum::<usize>();
+        println!("{registers} registers compared, {} accepted", self.accepted);
+        for (number, met) in self.refused.iter().enumerate().skip(1) {
+            println!("refused {number:2}: {met}");
+        }
+        for (route, met) in self.routes.iter().enumerate().skip(1) {
+            println!("answered by route {route}: {met} cards");
+        }
+        for (table, met) in self.tables.iter().enumerate().skip(1) {
+            println!("answered from Table {table:2}: {met} cards");
+        }
+        assert!(registers >= RANDOM_REGISTERS);
+        assert!(self.accepted * 4 >= registers, "too few registers were accepted");
+        for met in self.refused[1..].iter().chain(&self.routes[1..]).chain(&self.tables[1..]) {
+            assert!(*met >= LEAST_OF_EACH, "a case was met too seldom");
+        }
+    }
+}
+
+/// The three words of the C interface for a result: the returned one and both farthest words.
+fn words(result: Result<reference::Accepted, Refused>, untouched: (u64, u64)) -> (u64, u64, u64) {
+    let word = |farthest: Option<Farthest>| farthest.map_or(0, |f| u64::from(f.card) * 65_536 + u64::from(f.miles));
+    match result {
+        Ok(accepted) => (0, word(accepted.toxic), word(accepted.flammable)),
+        Err(Refused { number, place }) => ((u64::from(number) << 32) + u64::from(place), untouched.0, untouched.1),
+    }
+}
+
+fn hex(bytes: &[u8]) -> String {
+    bytes.iter().map(|byte| format!("{byte:02x}")).collect()
+}
+
+// The sweeps: one card a register, each combination of codes.
+
+/// Every toxic substance in every state, ground and containment, at quantities of all sizes.
+fn sweep_toxics(comparison: &mut Comparison) {
+    const POUNDS: [u32; 8] = [1, 10, 155, 2_249, 20_000, 420_000, 2_000_010, MAX_POUNDS];
+    for toxic in printed().toxics() {
+        for code in 0..4 * 2 * 3 * POUNDS.len() {
+            let (pounds, code) = (POUNDS[code % POUNDS.len()], code / POUNDS.len());
+            let card = Card {
+                kind: 1,
+                state: 1 + (code % 4) as u8,
+                ground: 1 + (code / 4 % 2) as u8,
+                containment: (code / 8) as u8,
+                cas: toxic.cas,
+                pounds,
+                number: 1,
+                ..Card::default()
+            };
+            let card = contained(&mut comparison.rng, card, toxic);
+            comparison.compare(&samples::register(&[card]), ANSWER_LEN);
+        }
+    }
+}
+
+/// The card with an area and a wall where it needs them, about as large as its pool.
+fn contained(rng: &mut Rng, card: Card, toxic: &Toxic) -> Card {
+    let full = u64::from(card.pounds) * toxic.density_factor / 100;
+    let share = *rng.pick(&[1, 2, 50]);
+    let area = rng.near(full / share, MAX_AREA);
+    match card.containment {
+        0 => card,
+        1 => Card { area, wall: rng.any_size(300) as u16, ..card },
+        _ => Card { area, ..card },
+    }
+}
+
+/// Every liquid at every temperature around the columns of B-4.
+fn sweep_temperatures(comparison: &mut Comparison) {
+    for toxic in printed().toxics() {
+        if matches!(toxic.phase, Phase::Gas) {
+            continue;
+        }
+        for tenths in (-502..-497).chain(240..=510).chain(2_998..3_003) {
+            let pounds = comparison.rng.any_size(MAX_POUNDS);
+            let card =
+                Card { kind: 1, state: 4, ground: 2, cas: toxic.cas, pounds, tenths, number: 1, ..Card::default() };
+            comparison.compare(&samples::register(&[card]), ANSWER_LEN);
+        }
+    }
+}
+
+/// Every flammable substance at, below and above every printed quantity.
+fn sweep_flammables(comparison: &mut Comparison) {
+    for flammable in printed().flammables() {
+        for quantity in printed().quantities() {
+            for pounds in quantity - 1..=quantity + 1 {
+                let card = Card { kind: 2, cas: flammable.cas, pounds: pounds as u32, number: 1, ..Card::default() };
+                comparison.compare(&samples::register(&[card]), ANSWER_LEN);
+            }
+        }
+    }
+}
+
+// Random registers, sound, faulty and damaged.
+
+fn random_case(rng: &mut Rng) -> (Vec<u8>, usize) {
+    let mut cards = random_cards(rng);
+    if rng.one_in(40) {
+        cards.iter_mut().rev().zip(0..).for_each(|(card, back)| card.number = u32::MAX - back);
+    }
+    let mut buffer_len = ANSWER_LEN * cards.len();
+    let plan = rng.below(100);
+    if (50..88).contains(&plan) {
+        spoil(rng, &mut cards);
+        // A second fault, to see which is found first.
+        if rng.one_in(4) {
+            spoil(rng, &mut cards);
+        }
+    }
+    let mut register = samples::register(&cards);
+    if plan >= 88 {
+        damage(rng, &mut register);
+    }
+    match rng.below(20) {
+        0 => buffer_len = buffer_len.saturating_sub(1 + rng.below(17) as usize),
+        1 => buffer_len = rng.below(buffer_len as u64 + 1) as usize,
+        2..8 => buffer_len += 1 + rng.below(40) as usize,
+        _ => {}
+    }
+    (register, buffer_len)
+}
+
+fn random_cards(rng: &mut Rng) -> Vec<Card> {
+    match rng.below(10_000) {
+        // Long registers take only cards that are accepted alone, or hardly one of them would be.
+        0..6 => {
+            let count = *rng.pick(&[100, 700, MAX_CARDS - 1, MAX_CARDS]);
+            samples::accepted_cards(rng, count)
+        }
+        6 => vec![samples::sound_cards(rng, 1)[0]; MAX_CARDS + 1 + rng.below(3) as usize],
+        7..100 => {
+            let count = rng.between(5, 40) as usize;
+            samples::accepted_cards(rng, count)
+        }
+        100..400 => Vec::new(),
+        _ => {
+            let count = rng.between(1, 4) as usize;
+            samples::sound_cards(rng, count)
+        }
+    }
+}
+
+/// One fault in one card, most of them of a single field.
+fn spoil(rng: &mut Rng, cards: &mut [Card]) {
+    if cards.is_empty() {
+        return;
+    }
+    let place = rng.below(cards.len() as u64) as usize;
+    let last_number = place.checked_sub(1).map_or(0, |before| cards[before].number);
+    let card = &mut cards[place];
+    match rng.below(7) {
+        0 => card.number = *rng.pick(&[0, last_number, last_number.saturating_sub(1)]),
+        1 => spoil_form(rng, card),
+        2 => card.cas = other_substance(rng, card),
+        3 => card.pounds = *rng.pick(&[0, MAX_POUNDS + 1, u32::MAX, 1 << 31]),
+        4 => spoil_range(rng, card),
+        5 => spoil_state(rng, card),
+        _ => *card = beyond_the_table(rng, *card),
+    }
+}
+
+/// A code that is not listed, or a field filled that must be zero.
+fn spoil_form(rng: &mut Rng, card: &mut Card) {
+    let code = *rng.pick(&[0, 1, 2, 3, 4, 5, 6, 255]);
+    match rng.below(7) {
+        0 => card.kind = code,
+        1 => card.state = code,
+        2 => card.ground = code,
+        3 => card.containment = code,
+        4 => card.area = rng.any_size(MAX_AREA),
+        5 => card.wall = rng.any_size(u32::from(MAX_WALL)) as u16,
+        _ => card.tenths = *rng.pick(&[1, -1, 250, i16::MIN]),
+    }
+}
+
+/// A CAS number that is not listed, or that is listed for the other kind.
+fn other_substance(rng: &mut Rng, card: &Card) -> u32 {
+    match rng.below(6) {
+        0 => card.cas.wrapping_add(1),
+        1 => card.cas.wrapping_sub(1),
+        2 => *rng.pick(&[0, 1, u32::MAX, 8_014_957]),
+        3 => rng.bits() as u32,
+        _ if card.kind == 1 => rng.pick(printed().flammables()).cas,
+        _ => rng.pick(printed().toxics()).cas,
+    }
+}
+
+/// An area, wall or temperature out of range, in a card that has the field.
+fn spoil_range(rng: &mut Rng, card: &mut Card) {
+    if card.kind != 1 {
+        return;
+    }
+    match rng.below(3) {
+        0 if card.containment != 0 => card.area = *rng.pick(&[0, MAX_AREA + 1, u32::MAX]),
+        1 if card.containment == 1 => card.wall = *rng.pick(&[MAX_WALL + 1, u16::MAX]),
+        _ if card.state == 4 => card.tenths = *rng.pick(&[-501, 3_001, i16::MIN, i16::MAX]),
+        _ => {
+            card.containment = 1;
+            card.area = *rng.pick(&[0, 1, MAX_AREA, MAX_AREA + 1]);
+            card.wall = *rng.pick(&[0, 1, MAX_WALL, MAX_WALL + 1]);
+        }
+    }
+}
+
+/// A state that the substance or the dike does not admit, or a temperature without data.
+fn spoil_state(rng: &mut Rng, card: &mut Card) {
+    if card.kind != 1 {
+        return;
+    }
+    if rng.one_in(3) {
+        let without_data: Vec<u32> = printed()
+            .toxics()
+            .iter()
+            .filter(|toxic| matches!(&toxic.phase, Phase::Liquid(factors) if factors.at(300) == Factor::NoData))
+            .map(|toxic| toxic.cas)
+            .collect();
+        card.cas = *rng.pick(&without_data);
+        card.state = 4;
+        card.tenths = *rng.pick(&[274, 275, 325, 500, 501]);
+        return;
+    }
+    card.state = rng.between(1, 4) as u8;
+    if card.state != 4 {
+        card.tenths = 0;
+        if rng.one_in(4) {
+            card.containment = 1;
+            card.area = rng.any_size(MAX_AREA);
+        }
+    }
+}
+
+/// A quantity that is on or past the end of what the card's table can hold.
+fn beyond_the_table(rng: &mut Rng, card: Card) -> Card {
+    if card.kind == 2 {
+        let pounds = *rng.pick(&[2_000_000, 2_000_001, MAX_POUNDS]);
+        return Card { pounds, ..card };
+    }
+    // Just above the last rows: 750,000 pounds a minute of ammonia, 200,000 of other dense gases.
+    let pounds = *rng.pick(&[2_000_000, 2_000_010, 3_636_364, 7_500_000, 7_500_001, MAX_POUNDS]);
+    let ammonia = rng.one_in(4);
+    if ammonia {
+        return Card { pounds, cas: 7_664_417, state: 3, containment: 0, area: 0, wall: 0, tenths: 0, ..card };
+    }
+    Card { pounds, containment: 0, area: 0, wall: 0, ..card }
+}
+
+/// Bytes changed, lost or added, sometimes with a length field that fits again.
+fn damage(rng: &mut Rng, register: &mut Vec<u8>) {
+    match rng.below(10) {
+        0 => register.truncate(rng.below(register.len() as u64 + 1) as usize),
+        1 => register.truncate(register.len().saturating_sub(1 + rng.below(24) as usize)),
+        2 => {
+            for _ in 0..=rng.below(30) {
+                register.push(rng.bits() as u8);
+            }
+        }
+        3 => register[..4].copy_from_slice(&(rng.bits() as u32 >> rng.below(32)).to_be_bytes()),
+        4 => register[4] = *rng.pick(&[0, 2, 3, 9, 255]),
+        5 => {
+            let count = *rng.pick(&[0, 1, 2, 3, 2_000, 2_001, u16::MAX]);
+            register[5..7].copy_from_slice(&count.to_be_bytes());
+        }
+        6 => *register = (0..rng.below(40)).map(|_| rng.bits() as u8).collect(),
+        _ => {
+            for _ in 0..=rng.below(3) {
+                let place = rng.below(register.len() as u64) as usize;
+                let flipped = register[place] ^ (1 << rng.below(8));
+                register[place] = *rng.pick(&[0, 1, 2, 255, flipped, flipped]);
+            }
+        }
+    }
+    if rng.one_in(2) && register.len() >= HEADER_LEN {
+        let length = register.len() as u32;
+        register[..4].copy_from_slice(&length.to_be_bytes());
+    }
+}

@@ -1,0 +1,675 @@
+#!/usr/bin/env python3
+"""Turns data/ into the printed lists of the specifications and the constant arrays of the code.
+
+    python3 tools/generate.py           writes every generated file
+    python3 tools/generate.py --check   exits 1, naming the file, where one is missing or differs
+
+Nothing of data/ is taken on trust: whatever is not as expected stops the run with a message. Figures are converted
+by integer arithmetic on their text, since a float would not hold 0.0087 exactly.
+"""
+
+import os
+import re
+import sys
+
+ROOT = os.path.dirname(os.path.dirname(os.path.abspath(__file__)))
+
+# Decimals that each unit holds: the figure 0.0087 of an endpoint is 870 hundred-thousandths.
+ENDPOINT_DECIMALS = 5
+LIQUID_FACTOR_DECIMALS = 6
+DENSITY_FACTOR_DECIMALS = 2
+TEMPERATURE_FACTOR_DECIMALS = 2
+MILE_DECIMALS = 2
+RATIO_DECIMALS = 1
+
+# Limits of the scope paper, in those units; the code's arithmetic relies on them.
+LIQUID_FACTOR_LIMIT = 1_000_000
+DENSITY_FACTOR_LIMIT = 200
+TEMPERATURE_FACTOR_LIMIT = 1_000
+
+# What the code stores in CELL where Exhibit B-4 prints no factor: above every factor that it may print.
+CELL_LFB = 65534
+CELL_NO_DATA = 65535
+
+# What a mark reads, in hundredths of a mile.
+NEAREST = 10
+FARTHEST = 2500
+DISTANCE_READ = {
+    "less": NEAREST,
+    "hash": NEAREST,
+    "blank": NEAREST,
+    "more": FARTHEST,
+    "star": FARTHEST,
+    "stars": FARTHEST,
+}
+
+# The marks that each table prints, by its own footnotes: "*" is a footnote of "<0.1*" in Tables 9 and 10, and stands
+# alone for more than 25 miles in 11 and 12, so a mark of another table is a fault.
+NEUTRAL_MARKS = {">25*": "more"}
+DENSE_MARKS = {"#": "hash", "<0.1": "less", ">25": "more", "*": "star"}
+AMMONIA_MARKS = {"<0.1*": "less", "**": "stars"}
+CHLORINE_MARKS = {"*": "star"}
+
+NEUTRAL_TABLES = (1, 2, 3, 4)
+DENSE_TABLES = (5, 6, 7, 8)
+CHEMICAL_TABLES = (9, 10, 11, 12)
+
+GAS_COUNT = 23
+LIQUID_COUNT = 51
+FLAMMABLE_COUNT = 63
+DENSE_ROW_COUNT = 27
+DENSE_COLUMN_COUNT = 16
+QUANTITY_COUNT = 11
+
+U64_MAX = 2**64 - 1
+
+PLUMES = {"Buoyant": "Neutral", "Dense": "Dense"}
+
+
+class Fault(Exception):
+    """Something in data/ that this program does not expect."""
+
+
+def expect(holds, where, what):
+    if not holds:
+        raise Fault(f"{where}: {what}")
+
+
+# ---- Reading data/ ----
+
+
+def read_rows(name):
+    """The header and the rows of a file of data/, each row with its place for messages."""
+    path = os.path.join(ROOT, "data", name)
+    expect(os.path.exists(path), f"data/{name}", "the file is missing")
+    with open(path, encoding="utf-8", newline="") as file:
+        text = file.read()
+    expect(text.endswith("\n") and "\r" not in text, f"data/{name}", "lines must end in a line feed")
+    lines = list(enumerate(text[:-1].split("\n"), start=1))
+    # Only the lines on top are comments: a "#" further down is a mark of Tables 5 to 8.
+    while lines and lines[0][1].startswith("# "):
+        lines.pop(0)
+    expect(lines, f"data/{name}", "no header line")
+    header = lines[0][1].split("\t")
+    rows = []
+    for number, line in lines[1:]:
+        cells = line.split("\t")
+        where = f"data/{name}, line {number}"
+        expect(len(cells) == len(header), where, f"{len(cells)} cells where the header has {len(header)}")
+        expect(all(cell == cell.strip() for cell in cells), where, "a space at an end of a cell")
+        rows.append((where, cells))
+    return header, rows
+
+
+def read_records(name, columns, count):
+    """The rows of a file as dictionaries, where the header and the number of rows are known beforehand."""
+    header, rows = read_rows(name)
+    expect(header == columns, f"data/{name}", f"the header is not {' '.join(columns)}")
+    expect(count is None or len(rows) == count, f"data/{name}", f"{len(rows)} rows, not {count}")
+    return [(where, dict(zip(columns, cells))) for where, cells in rows]
+
+
+def scaled(text, decimals, where):
+    """A printed figure as a whole number of its unit: scaled("0.0087", 5) is 870."""
+    match = re.fullmatch(r"([0-9]{1,3}(?:,[0-9]{3})*)(?:\.([0-9]+))?", text)
+    expect(match, where, f"'{text}' is no figure")
+    whole, fraction = match.group(1).replace(",", ""), match.group(2) or ""
+    expect(len(fraction) <= decimals, where, f"'{text}' has more than {decimals} decimals")
+    return int(whole + fraction.ljust(decimals, "0"))
+
+
+def factor(text, decimals, limit, where):
+    """A figure that is above zero and within its limit."""
+    value = scaled(text, decimals, where)
+    expect(0 < value <= limit, where, f"'{text}' is zero or above the limit")
+    return value
+
+
+def cas_number(text, where):
+    """A CAS number without its hyphens. Its last digit is a check digit, which catches a mistyped one."""
+    expect(re.fullmatch(r"[1-9][0-9]{1,6}-[0-9]{2}-[0-9]", text), where, f"'{text}' is no CAS number")
+    digits = text.replace("-", "")
+    weighted = sum(place * int(digit) for place, digit in enumerate(reversed(digits[:-1]), start=1))
+    expect(weighted % 10 == int(digits[-1]), where, f"the check digit of '{text}' is wrong")
+    return int(digits)
+
+
+def expect_rising(numbers, where):
+    expect(all(a < b for a, b in zip(numbers, numbers[1:])), where, "the numbers do not rise")
+
+
+def expect_distinct(records, where):
+    numbers = [record["cas"] for record in records]
+    expect(len(set(numbers)) == len(numbers), where, "a CAS number stands twice")
+
+
+def expect_no_blank(cells, where):
+    expect(all(cells.values()), where, "a blank cell")
+
+
+def plume(text, where):
+    expect(text in PLUMES, where, f"'{text}' is no plume")
+    return PLUMES[text]
+
+
+# ---- The exhibits ----
+
+
+def read_gases():
+    columns = ["cas", "name", "molecular_weight", "endpoint", "lfb", "df", "reference_table"]
+    gases = []
+    for where, cells in read_records("b1.tsv", columns, GAS_COUNT):
+        expect_no_blank(cells, where)
+        gases.append({
+            "cas": cas_number(cells["cas"], where),
+            "name": cells["name"],
+            "endpoint": factor(cells["endpoint"], ENDPOINT_DECIMALS, 2**32 - 1, where),
+            "lfb": factor(cells["lfb"], LIQUID_FACTOR_DECIMALS, LIQUID_FACTOR_LIMIT, where),
+            "df": factor(cells["df"], DENSITY_FACTOR_DECIMALS, DENSITY_FACTOR_LIMIT, where),
+            "plume": plume(cells["reference_table"], where),
+        })
+    return gases
+
+
+def read_liquids():
+    columns = ["cas", "name", "molecular_weight", "vapor_pressure_mmhg", "endpoint", "lfa", "lfb", "df",
+               "worst_case_table", "alternative_case_table"]
+    liquids = []
+    for where, cells in read_records("b2.tsv", columns, LIQUID_COUNT):
+        expect_no_blank(cells, where)
+        liquids.append({
+            "cas": cas_number(cells["cas"], where),
+            "name": cells["name"],
+            "endpoint": factor(cells["endpoint"], ENDPOINT_DECIMALS, 2**32 - 1, where),
+            "lfa": factor(cells["lfa"], LIQUID_FACTOR_DECIMALS, LIQUID_FACTOR_LIMIT, where),
+            "lfb": factor(cells["lfb"], LIQUID_FACTOR_DECIMALS, LIQUID_FACTOR_LIMIT, where),
+            "df": factor(cells["df"], DENSITY_FACTOR_DECIMALS, DENSITY_FACTOR_LIMIT, where),
+            "plume": plume(cells["worst_case_table"], where),
+        })
+    return liquids
+
+
+def read_cell(text, where):
+    """A cell of Exhibit B-4: a factor in hundredths, "LFB" or "ND"."""
+    if text in ("LFB", "ND"):
+        return text
+    return factor(text, TEMPERATURE_FACTOR_DECIMALS, TEMPERATURE_FACTOR_LIMIT, where)
+
+
+def read_factors():
+    temperatures = ["tcf30", "tcf35", "tcf40", "tcf45", "tcf50"]
+    columns = ["cas", "name", "boiling_point_c"] + temperatures
+    return [
+        {
+            "cas": cas_number(cells["cas"], where),
+            "name": cells["name"],
+            "cells": [read_cell(cells[column], where) for column in temperatures],
+        }
+        for where, cells in read_records("b4.tsv", columns, LIQUID_COUNT)
+    ]
+
+
+def read_exhibits():
+    gases, liquids, factors = read_gases(), read_liquids(), read_factors()
+    expect_distinct(gases + liquids, "data/b1.tsv and data/b2.tsv")
+    expect([x["cas"] for x in factors] == [x["cas"] for x in liquids], "data/b4.tsv",
+           "its substances are not those of data/b2.tsv, in their order")
+    return gases, liquids, factors
+
+
+# ---- The tables ----
+
+
+def read_mark(text, marks, where):
+    """A distance as printed: the pair of the mark's name and, for a figure, its hundredths of a mile."""
+    if text in marks:
+        return (marks[text], None)
+    hundredths = scaled(text, MILE_DECIMALS, where)
+    expect(0 < hundredths <= FARTHEST, where, f"'{text}' is no distance up to 25 miles")
+    return ("miles", hundredths)
+
+
+def distance_read(mark):
+    name, hundredths = mark
+    return hundredths if name == "miles" else DISTANCE_READ[name]
+
+
+def table_file(number):
+    return f"table{number:02d}.tsv"
+
+
+def read_neutral(number):
+    """One of Tables 1 to 4: closed ranges that join without a gap from 0 on, and one open range above them."""
+    rows = read_records(table_file(number), ["range", "distance"], None)
+    closed, upto = [], 0
+    for where, cells in rows[:-1]:
+        bounds = cells["range"].split(" - ")
+        expect(len(bounds) == 2, where, f"'{cells['range']}' is no range")
+        lower, upper = (scaled(bound, RATIO_DECIMALS, where) for bound in bounds)
+        expect(lower == upto and lower < upper, where, "the range does not join the one above")
+        closed.append((lower, upper, read_mark(cells["distance"], NEUTRAL_MARKS, where)))
+        upto = upper
+    where, cells = rows[-1]
+    expect(cells["range"].startswith(">"), where, "the last range is not open")
+    expect(scaled(cells["range"][1:], RATIO_DECIMALS, where) == upto, where, "the range does not join the one above")
+    return {"closed": closed, "above": (upto, read_mark(cells["distance"], NEUTRAL_MARKS, where))}
+
+
+def read_dense(number):
+    """One of Tables 5 to 8: rates down, endpoints across."""
+    name = table_file(number)
+    header, rows = read_rows(name)
+    expect(header[0] == "rate", f"data/{name}", "the first column is not rate")
+    endpoints = [scaled(cell, ENDPOINT_DECIMALS, f"data/{name}, header") for cell in header[1:]]
+    rates = [scaled(cells[0], 0, where) for where, cells in rows]
+    expect(len(endpoints) == DENSE_COLUMN_COUNT, f"data/{name}", f"{len(endpoints)} endpoints")
+    expect(len(rates) == DENSE_ROW_COUNT, f"data/{name}", f"{len(rates)} rates")
+    expect_rising(endpoints, f"data/{name}, header")
+    expect_rising(rates, f"data/{name}, rates")
+    marks = [[read_mark(cell, DENSE_MARKS, where) for cell in cells[1:]] for where, cells in rows]
+    return {"rates": rates, "endpoints": endpoints, "marks": marks}
+
+
+def read_chemical(number):
+    """One of Tables 9 to 12: rates down, rural and urban. Only the urban column of Table 10 has blanks."""
+    rural_marks = AMMONIA_MARKS if number in (9, 10) else CHLORINE_MARKS
+    urban_marks = {**rural_marks, "": "blank"} if number == 10 else rural_marks
+    lines = [
+        (scaled(cells["rate"], 0, where), read_mark(cells["rural"], rural_marks, where),
+         read_mark(cells["urban"], urban_marks, where))
+        for where, cells in read_records(table_file(number), ["rate", "rural", "urban"], None)
+    ]
+    expect_rising([rate for rate, _, _ in lines], f"data/{table_file(number)}, rates")
+    return lines
+
+
+def read_flammables():
+    name = table_file(13)
+    header, rows = read_rows(name)
+    expect(header[:2] == ["cas", "name"], f"data/{name}", "the first columns are not cas and name")
+    quantities = [scaled(cell, 0, f"data/{name}, header") for cell in header[2:]]
+    expect(len(quantities) == QUANTITY_COUNT, f"data/{name}", f"{len(quantities)} quantities")
+    expect(len(rows) == FLAMMABLE_COUNT, f"data/{name}", f"{len(rows)} rows")
+    expect_rising(quantities, f"data/{name}, header")
+    flammables = [
+        {
+            "cas": cas_number(cells[0], where),
+            "name": cells[1],
+            # Table 13 prints no marks
+            "distances": [distance_read(read_mark(cell, {}, where)) for cell in cells[2:]],
+        }
+        for where, cells in rows
+    ]
+    expect_distinct(flammables, f"data/{name}")
+    return quantities, flammables
+
+
+# ---- What the code reads of a table ----
+
+
+def entries_in_use(rows):
+    """The largest distance in the rows up to this one and the columns from this one on.
+
+    Endpoints rise from left to right, so those are the entries of no greater rate and no lower endpoint."""
+    result, above = [], [0] * len(rows[0])
+    for row in rows:
+        line = [max(entry, earlier) for entry, earlier in zip(row, above)]
+        for column in reversed(range(len(line) - 1)):
+            line[column] = max(line[column], line[column + 1])
+        result.append(line)
+        above = line
+    return result
+
+
+def column_in_use(marks):
+    """The entries in use of a table with one column."""
+    return [line[0] for line in entries_in_use([[distance_read(mark)] for mark in marks])]
+
+
+def rate_cuts(rates):
+    """The largest rate, in thousandths, that reads each row: below the midpoint to the next, as the larger row has it.
+
+    The last row is read up to its own rate."""
+    return [500 * (a + b) - 1 for a, b in zip(rates, rates[1:])] + [1000 * rates[-1]]
+
+
+def endpoint_cuts(endpoints):
+    """The largest endpoint that reads each column: the midpoint to the next, as the smaller column has it."""
+    return [(a + b) // 2 for a, b in zip(endpoints, endpoints[1:])] + [U64_MAX]
+
+
+def flat(lists):
+    return [entry for entries in lists for entry in entries]
+
+
+# ---- Writing antt ----
+
+LIST_IMPORT = "use mathlib.Core.List.{List, [], _∷_}"
+NAT_IMPORT = "use Prim.Native.Nat.{ℕ}"
+
+
+def antt_file(sources, purpose, imports, definitions):
+    lines = [f"-- Generated by tools/generate.py from {sources}: do not edit.", f"-- {purpose}"]
+    lines += imports
+    for definition in definitions:
+        lines += [""] + definition
+    return "\n".join(lines) + "\n"
+
+
+def antt_definition(comment, name, element, items):
+    """A list with one item a line; an item is the pair of a comment above it, or None, and its text."""
+    lines = [f"-- {comment}", f"unfoldable pub {name} : List {element}", f"{name} ="]
+    joint = ""
+    for note, text in items:
+        if note:
+            lines.append(f"    -- {note}")
+        lines.append(f"    {joint}{text}")
+        joint = "∷ "
+    return lines + ["    ∷ []"]
+
+
+def antt_list(entries):
+    return " ∷ ".join([str(entry) for entry in entries] + ["[]"])
+
+
+def antt_numbers(comment, name, numbers):
+    """A list of numbers, some a line."""
+    parts = [" ∷ ".join(map(str, numbers[start:start + 12])) for start in range(0, len(numbers), 12)]
+    return antt_definition(comment, name, "ℕ", [(None, part) for part in parts])
+
+
+def antt_mark(mark):
+    name, hundredths = mark
+    return f"miles {hundredths}" if name == "miles" else name
+
+
+def bracketed(text):
+    return f"({text})" if " " in text else text
+
+
+def marks_used(marks):
+    """The constructors of marks that a file needs, in the order of their declaration."""
+    used = {name for name, _ in marks}
+    return [name for name in ("miles", "less", "hash", "more", "star", "stars", "blank") if name in used]
+
+
+def printed_import(crate, names):
+    return f"use Rattle.{crate}.specs.Printed.{{{', '.join(names)}}}"
+
+
+def variants_import(enum, used, variants):
+    names = [variant for variant in variants if variant in used]
+    return f"use Rattle.exhibits.specs.declared.{enum}.the-variants.{{{', '.join(names)}}}"
+
+
+def printed_b1(gases):
+    items = [(x["name"], f"gas {x['cas']} {x['endpoint']} {x['lfb']} {x['df']} {x['plume']}") for x in gases]
+    return antt_file(
+        "data/b1.tsv", "Exhibit B-1 as printed. Endpoints in hundred-thousandths of mg/L, LFB in millionths, DF in hundredths.",
+        [LIST_IMPORT, printed_import("exhibits", ["GasLine", "gas"]),
+         variants_import("Plume", {x["plume"] for x in gases}, ("Neutral", "Dense"))],
+        [antt_definition("Exhibit B-1, toxic gases, in the printed order: CAS number, endpoint, LFB, DF, worst-case plume",
+                         "b1", "GasLine", items)])
+
+
+def printed_b2(liquids):
+    items = [(x["name"], f"liquid {x['cas']} {x['endpoint']} {x['lfa']} {x['lfb']} {x['df']} {x['plume']}")
+             for x in liquids]
+    return antt_file(
+        "data/b2.tsv", "Exhibit B-2 as printed. Endpoints in hundred-thousandths of mg/L, LFA and LFB in millionths, DF in hundredths.",
+        [LIST_IMPORT, printed_import("exhibits", ["LiquidLine", "liquid"]),
+         variants_import("Plume", {x["plume"] for x in liquids}, ("Neutral", "Dense"))],
+        [antt_definition("Exhibit B-2, toxic liquids, in the printed order: CAS number, endpoint, LFA, LFB, DF, worst-case plume",
+                         "b2", "LiquidLine", items)])
+
+
+CELL_VARIANTS = {"LFB": "Lfb", "ND": "NoData"}
+
+
+def antt_cell(cell):
+    return CELL_VARIANTS[cell] if cell in CELL_VARIANTS else f"(Factor {cell})"
+
+
+def printed_b4(factors):
+    items = [(x["name"], f"factors {x['cas']} {' '.join(map(antt_cell, x['cells']))}") for x in factors]
+    used = {CELL_VARIANTS.get(cell, "Factor") for x in factors for cell in x["cells"]}
+    return antt_file(
+        "data/b4.tsv", "Exhibit B-4 as printed. Factors in hundredths.",
+        [LIST_IMPORT, printed_import("exhibits", ["FactorLine", "factors"]),
+         variants_import("Cell", used, ("Factor", "Lfb", "NoData"))],
+        [antt_definition("Exhibit B-4, temperature factors, in the printed order: CAS number, then 30, 35, 40, 45 and 50 °C",
+                         "b4", "FactorLine", items)])
+
+
+def printed_neutral(tables):
+    marks = [mark for table in tables.values() for _, _, mark in table["closed"]]
+    marks += [table["above"][1] for table in tables.values()]
+    definitions = []
+    for number, table in tables.items():
+        items = [(None, f"closed {lower} {upper} {bracketed(antt_mark(mark))}") for lower, upper, mark in table["closed"]]
+        lower, mark = table["above"]
+        items.append((None, f"above {lower} {bracketed(antt_mark(mark))}"))
+        definitions.append(antt_definition(f"Table {number}: the range of rate / endpoint, the distance",
+                                           f"table{number}", "Range", items))
+    return antt_file(
+        "data/table01.tsv to table04.tsv",
+        "Reference Tables 1 to 4 as printed. Bounds in tenths of (lbs/min)/(mg/L), distances in hundredths of a mile.",
+        [LIST_IMPORT, printed_import("dispersion", marks_used(marks) + ["Range", "closed", "above"])], definitions)
+
+
+def printed_dense(tables):
+    marks = [mark for table in tables.values() for row in table["marks"] for mark in row]
+    definitions = []
+    for number, table in tables.items():
+        rows = [(None, f"({antt_list(map(antt_mark, row))})") for row in table["marks"]]
+        definitions += [
+            antt_numbers(f"Table {number}: the rates of its rows", f"rates{number}", table["rates"]),
+            antt_numbers(f"Table {number}: the endpoints of its columns", f"endpoints{number}", table["endpoints"]),
+            antt_definition(f"Table {number}: the distances, row by row", f"table{number}", "(List Mark)", rows),
+        ]
+    return antt_file(
+        "data/table05.tsv to table08.tsv",
+        "Reference Tables 5 to 8 as printed. Rates in lbs/min, endpoints in hundred-thousandths of mg/L, distances in\n"
+        "-- hundredths of a mile.",
+        [NAT_IMPORT, LIST_IMPORT, printed_import("dispersion", ["Mark"] + marks_used(marks))], definitions)
+
+
+def printed_chemical(tables):
+    marks = [mark for table in tables.values() for _, rural, urban in table for mark in (rural, urban)]
+    definitions = []
+    for number, table in tables.items():
+        items = [(None, f"line {rate} {bracketed(antt_mark(rural))} {bracketed(antt_mark(urban))}")
+                 for rate, rural, urban in table]
+        definitions.append(antt_definition(f"Table {number}: the rate, the rural and the urban distance",
+                                           f"table{number}", "Line", items))
+    return antt_file(
+        "data/table09.tsv to table12.tsv",
+        "Reference Tables 9 to 12 as printed. Rates in lbs/min, distances in hundredths of a mile.",
+        [LIST_IMPORT, printed_import("dispersion", marks_used(marks) + ["Line", "line"])], definitions)
+
+
+def printed_13(quantities, flammables):
+    items = [(x["name"], f"flammable {x['cas']} ({antt_list(x['distances'])})") for x in flammables]
+    return antt_file(
+        "data/table13.tsv", "Reference Table 13 as printed. Quantities in pounds, distances in hundredths of a mile.",
+        [NAT_IMPORT, LIST_IMPORT, printed_import("blast", ["FlammableLine", "flammable"])],
+        [antt_numbers("Table 13: the quantities of its columns", "quantities", quantities),
+         antt_definition("Table 13, flammable substances, in the printed order: CAS number, the distance for each quantity",
+                         "table13", "FlammableLine", items)])
+
+
+# ---- Writing the code's arrays ----
+
+
+def rt_file(sources, arrays):
+    lines = [f"// Generated by tools/generate.py from {sources}: do not edit."]
+    for array in arrays:
+        lines += [""] + array
+    return "\n".join(lines) + "\n"
+
+
+def rt_array(comment, name, width, numbers):
+    expect(all(0 <= number < 2**width for number in numbers), name, f"a number does not fit {width} bits")
+    lines = [f"// {comment}", f"pub const {name}: [u{width}; {len(numbers)}] = ["]
+    for start in range(0, len(numbers), 12):
+        lines.append("    " + ", ".join(map(str, numbers[start:start + 12])) + ",")
+    return lines + ["];"]
+
+
+def rt_cell(cell):
+    return {"LFB": CELL_LFB, "ND": CELL_NO_DATA}.get(cell, cell)
+
+
+def exhibit_arrays(gases, liquids, factors):
+    no_factors = ["ND"] * 5
+    substances = [{**x, "is_gas": 1, "lfa": 0, "cells": no_factors} for x in gases]
+    substances += [{**x, "is_gas": 0, "cells": line["cells"]} for x, line in zip(liquids, factors)]
+    substances.sort(key=lambda x: x["cas"])
+
+    def field(name):
+        return [x[name] for x in substances]
+
+    return rt_file("data/b1.tsv, b2.tsv and b4.tsv", [
+        rt_array("CAS numbers of the toxic substances, rising; the other arrays follow their order.", "CAS", 64, field("cas")),
+        rt_array("1 for a gas of Exhibit B-1, 0 for a liquid of B-2.", "IS_GAS", 8, field("is_gas")),
+        rt_array("LFA in millionths, 0 for a gas.", "LFA", 32, field("lfa")),
+        rt_array("LFB in millionths.", "LFB", 32, field("lfb")),
+        rt_array("DF in hundredths.", "DF", 8, field("df")),
+        rt_array("Endpoints in hundred-thousandths of mg/L.", "ENDPOINT", 32, field("endpoint")),
+        rt_array("1 for a dense worst-case plume, 0 for a neutrally buoyant one.", "DENSE", 8,
+                 [int(x["plume"] == "Dense") for x in substances]),
+        rt_array(f"Exhibit B-4 at 30, 35, 40, 45 and 50 °C, five a substance: a factor in hundredths, {CELL_LFB} for LFB, "
+                 f"{CELL_NO_DATA} for no data and for a gas.", "CELL", 16,
+                 [rt_cell(cell) for x in substances for cell in x["cells"]]),
+    ])
+
+
+def neutral_arrays(tables):
+    counts = {len(table["closed"]) for table in tables.values()}
+    expect(len(counts) == 1, "data/table01.tsv to table04.tsv", "they differ in the number of ranges")
+    count = counts.pop()
+    bounds = flat([upper for _, upper, _ in table["closed"]] for table in tables.values())
+    ranges = flat(
+        column_in_use([mark for _, _, mark in table["closed"]] + [table["above"][1]]) for table in tables.values())
+    return [
+        rt_array(f"Tables 1 to 4: the upper bounds of the closed ranges in tenths, {count} a table.", "BOUND", 64, bounds),
+        rt_array(f"Tables 1 to 4: the entries in use in hundredths of a mile, {count + 1} a table, the last for the open range.",
+                 "RANGE", 16, ranges),
+    ]
+
+
+def dense_arrays(tables):
+    where = "data/table05.tsv to table08.tsv"
+    first = tables[DENSE_TABLES[0]]
+    expect(all(table["rates"] == first["rates"] for table in tables.values()), where, "they differ in their rates")
+    expect(all(table["endpoints"] == first["endpoints"] for table in tables.values()), where, "they differ in their endpoints")
+    entries = flat(
+        flat(entries_in_use([[distance_read(mark) for mark in row] for row in table["marks"]])) for table in tables.values())
+    return [
+        rt_array("Tables 5 to 8: the largest rate that reads each row, in thousandths of a pound per minute.", "ROW_UPTO", 64,
+                 rate_cuts(first["rates"])),
+        rt_array("Tables 5 to 8: the largest endpoint that reads each column, in hundred-thousandths of mg/L.", "COLUMN_UPTO", 64,
+                 endpoint_cuts(first["endpoints"])),
+        rt_array(f"Tables 5 to 8: the entries in use in hundredths of a mile, row by row, {DENSE_ROW_COUNT * DENSE_COLUMN_COUNT} "
+                 "a table.", "DENSE", 16, entries),
+    ]
+
+
+def chemical_arrays(tables):
+    arrays = []
+    for number, table in tables.items():
+        arrays += [
+            rt_array(f"Table {number}: the largest rate that reads each row, in thousandths of a pound per minute.",
+                     f"UPTO_{number}", 64, rate_cuts([rate for rate, _, _ in table])),
+            rt_array(f"Table {number}: the rural entries in use in hundredths of a mile.", f"RURAL_{number}", 16,
+                     column_in_use([rural for _, rural, _ in table])),
+            rt_array(f"Table {number}: the urban entries in use in hundredths of a mile.", f"URBAN_{number}", 16,
+                     column_in_use([urban for _, _, urban in table])),
+        ]
+    return arrays
+
+
+def dispersion_arrays(neutral, dense, chemical):
+    return rt_file("data/table01.tsv to table12.tsv",
+                   neutral_arrays(neutral) + dense_arrays(dense) + chemical_arrays(chemical))
+
+
+def blast_arrays(quantities, flammables):
+    ordered = sorted(flammables, key=lambda x: x["cas"])
+    return rt_file("data/table13.tsv", [
+        rt_array("CAS numbers of the flammable substances, rising.", "CAS", 64, [x["cas"] for x in ordered]),
+        rt_array("The quantities of Table 13 in pounds.", "QUANTITY", 64, quantities),
+        rt_array(f"Table 13 in hundredths of a mile, {QUANTITY_COUNT} a substance, in the order of CAS.", "DISTANCE", 16,
+                 flat(x["distances"] for x in ordered)),
+    ])
+
+
+# ---- All together ----
+
+
+def generated_files():
+    """Every generated file: its path below the repository and its text."""
+    gases, liquids, factors = read_exhibits()
+    neutral = {number: read_neutral(number) for number in NEUTRAL_TABLES}
+    dense = {number: read_dense(number) for number in DENSE_TABLES}
+    chemical = {number: read_chemical(number) for number in CHEMICAL_TABLES}
+    quantities, flammables = read_flammables()
+    return {
+        "crates/exhibits/specs/PrintedB1.antt": printed_b1(gases),
+        "crates/exhibits/specs/PrintedB2.antt": printed_b2(liquids),
+        "crates/exhibits/specs/PrintedB4.antt": printed_b4(factors),
+        "crates/exhibits/src/tables.rt": exhibit_arrays(gases, liquids, factors),
+        "crates/dispersion/specs/PrintedNeutral.antt": printed_neutral(neutral),
+        "crates/dispersion/specs/PrintedDense.antt": printed_dense(dense),
+        "crates/dispersion/specs/PrintedChemical.antt": printed_chemical(chemical),
+        "crates/dispersion/src/tables.rt": dispersion_arrays(neutral, dense, chemical),
+        "crates/blast/specs/Printed13.antt": printed_13(quantities, flammables),
+        "crates/blast/src/tables.rt": blast_arrays(quantities, flammables),
+    }
+
+
+def write(files):
+    for name, text in files.items():
+        path = os.path.join(ROOT, name)
+        os.makedirs(os.path.dirname(path), exist_ok=True)
+        with open(path, "wb") as file:
+            file.write(text.encode("utf-8"))
+    print(f"wrote {len(files)} generated files")
+
+
+def standing(name):
+    """The bytes of a file in the tree, or None where it is missing."""
+    try:
+        with open(os.path.join(ROOT, name), "rb") as file:
+            return file.read()
+    except FileNotFoundError:
+        return None
+
+
+def check(files):
+    faults = 0
+    for name, text in files.items():
+        found = standing(name)
+        if found != text.encode("utf-8"):
+            print(f"{name}: {'missing' if found is None else 'differs from what tools/generate.py makes'}", file=sys.stderr)
+            faults += 1
+    if faults:
+        sys.exit(1)
+    print(f"{len(files)} generated files are up to date")
+
+
+def main(arguments):
+    if arguments not in ([], ["--check"]):
+        sys.exit("usage: python3 tools/generate.py [--check]")
+    try:
+        files = generated_files()
+    except Fault as fault:
+        sys.exit(f"generate.py: {fault}")
+    if arguments:
+        check(files)
+    else:
+        write(files)
+
+
+if __name__ == "__main__":
+    main(sys.argv[1:])
