@@ -61,8 +61,6 @@ DENSE_ROW_COUNT = 27
 DENSE_COLUMN_COUNT = 16
 QUANTITY_COUNT = 11
 
-U64_MAX = 2**64 - 1
-
 PLUMES = {"Buoyant": "Neutral", "Dense": "Dense"}
 
 
@@ -327,15 +325,13 @@ def column_in_use(marks):
 
 
 def rate_cuts(rates):
-    """The largest rate, in thousandths, that reads each row: below the midpoint to the next, as the larger row has it.
-
-    The last row is read up to its own rate."""
-    return [500 * (a + b) - 1 for a, b in zip(rates, rates[1:])] + [1000 * rates[-1]]
+    """The largest rate, in thousandths, that reads each row but the last: below the midpoint, as the larger row has it."""
+    return [500 * (a + b) - 1 for a, b in zip(rates, rates[1:])]
 
 
 def endpoint_cuts(endpoints):
-    """The largest endpoint that reads each column: the midpoint to the next, as the smaller column has it."""
-    return [(a + b) // 2 for a, b in zip(endpoints, endpoints[1:])] + [U64_MAX]
+    """The largest endpoint that reads each column but the last: the midpoint, as the smaller column has it."""
+    return [(a + b) // 2 for a, b in zip(endpoints, endpoints[1:])]
 
 
 def flat(lists):
@@ -516,6 +512,20 @@ def rt_array(comment, name, width, numbers):
     return lines + ["];"]
 
 
+def rt_number(comment, name, width, number):
+    expect(0 <= number < 2**width, name, f"the number does not fit {width} bits")
+    return [f"// {comment}", f"pub const {name}: u{width} = {number};"]
+
+
+def rate_arrays(what, upto, last, rates):
+    """The cut points of a table's rows and the rate of its last row, under two names."""
+    return [
+        rt_array(f"{what}: the largest rate that reads each row but the last, in thousandths of a pound per minute.", upto, 64,
+                 rate_cuts(rates)),
+        rt_number(f"{what}: the rate of the last row, in thousandths of a pound per minute.", last, 64, 1000 * rates[-1]),
+    ]
+
+
 def rt_cell(cell):
     return {"LFB": CELL_LFB, "ND": CELL_NO_DATA}.get(cell, cell)
 
@@ -545,17 +555,16 @@ def exhibit_arrays(gases, liquids, factors):
 
 
 def neutral_arrays(tables):
-    counts = {len(table["closed"]) for table in tables.values()}
-    expect(len(counts) == 1, "data/table01.tsv to table04.tsv", "they differ in the number of ranges")
-    count = counts.pop()
-    bounds = flat([upper for _, upper, _ in table["closed"]] for table in tables.values())
-    ranges = flat(
-        column_in_use([mark for _, _, mark in table["closed"]] + [table["above"][1]]) for table in tables.values())
-    return [
-        rt_array(f"Tables 1 to 4: the upper bounds of the closed ranges in tenths, {count} a table.", "BOUND", 64, bounds),
-        rt_array(f"Tables 1 to 4: the entries in use in hundredths of a mile, {count + 1} a table, the last for the open range.",
-                 "RANGE", 16, ranges),
-    ]
+    arrays = []
+    for number, table in tables.items():
+        marks = [mark for _, _, mark in table["closed"]] + [table["above"][1]]
+        arrays += [
+            rt_array(f"Table {number}: the upper bounds of the closed ranges, in tenths.", f"BOUND_{number}", 32,
+                     [upper for _, upper, _ in table["closed"]]),
+            rt_array(f"Table {number}: the entries in use in hundredths of a mile, the last for the open range.",
+                     f"RANGE_{number}", 16, column_in_use(marks)),
+        ]
+    return arrays
 
 
 def dense_arrays(tables):
@@ -566,10 +575,9 @@ def dense_arrays(tables):
     entries = flat(
         flat(entries_in_use([[distance_read(mark) for mark in row] for row in table["marks"]])) for table in tables.values())
     return [
-        rt_array("Tables 5 to 8: the largest rate that reads each row, in thousandths of a pound per minute.", "ROW_UPTO", 64,
-                 rate_cuts(first["rates"])),
-        rt_array("Tables 5 to 8: the largest endpoint that reads each column, in hundred-thousandths of mg/L.", "COLUMN_UPTO", 64,
-                 endpoint_cuts(first["endpoints"])),
+        *rate_arrays("Tables 5 to 8", "ROW_UPTO", "LAST_ROW", first["rates"]),
+        rt_array("Tables 5 to 8: the largest endpoint that reads each column but the last, in hundred-thousandths of mg/L.",
+                 "COLUMN_UPTO", 64, endpoint_cuts(first["endpoints"])),
         rt_array(f"Tables 5 to 8: the entries in use in hundredths of a mile, row by row, {DENSE_ROW_COUNT * DENSE_COLUMN_COUNT} "
                  "a table.", "DENSE", 16, entries),
     ]
@@ -579,8 +587,7 @@ def chemical_arrays(tables):
     arrays = []
     for number, table in tables.items():
         arrays += [
-            rt_array(f"Table {number}: the largest rate that reads each row, in thousandths of a pound per minute.",
-                     f"UPTO_{number}", 64, rate_cuts([rate for rate, _, _ in table])),
+            *rate_arrays(f"Table {number}", f"UPTO_{number}", f"LAST_{number}", [rate for rate, _, _ in table]),
             rt_array(f"Table {number}: the rural entries in use in hundredths of a mile.", f"RURAL_{number}", 16,
                      column_in_use([rural for _, rural, _ in table])),
             rt_array(f"Table {number}: the urban entries in use in hundredths of a mile.", f"URBAN_{number}", 16,

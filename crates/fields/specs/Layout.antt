@@ -30,4 +30,5 @@ fieldsOf bytes =
       area = fourAt bytes 12;
       wall = twoAt bytes 16;
       heat = twoAt bytes 18;
-      number = fourAt bytes 20 }
+      number = fourAt bytes 20;
+    }

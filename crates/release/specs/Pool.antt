@@ -28,12 +28,14 @@ spilt full = 33 * full
 -- - diked area × wall) / 0.033. The result is rounded up to a hundredth of a square foot."
 unfoldable pub dikedArea : ℕ → ℕ → ℕ → ℕ
 dikedArea full area wall =
-    elim (leb full area)
-    [ true ↦ full
-    | false ↦
-        elim (leb (spilt full) (held area wall))
-        [ true ↦ area
-        | false ↦ min full (ceilDiv (33 * area + (spilt full - held area wall)) 33) ] ]
+    elim (leb full area) [
+      | true ↦ full
+      | false ↦
+          elim (leb (spilt full) (held area wall)) [
+            | true ↦ area
+            | false ↦ min full (ceilDiv (33 * area + (spilt full - held area wall)) 33)
+          ]
+    ]
 
 -- "Open: the full area. Building: the smaller of floor and full area."
 abbrev pub poolArea : ℕ → ℕ → Containment → ℕ

@@ -1,6 +1,7 @@
 // Pool areas, release rates and durations: the functions that make and open pounds, square feet and pounds per minute.
-use units::{Pounds, PoundsPerMinute, SquareFeet};
-
+use units::Pounds;
+use units::PoundsPerMinute;
+use units::SquareFeet;
 ghost use mathlib.Core.Path.{_≡_};
 ghost use Prim.Native.Nat.{_*_, _≤_};
 ghost use Rattle.release.specs.Pool.{fullArea, dikedArea, poolArea, gasRate, poolRate, atMostTenMinutes, beyondDike, isBuilding};

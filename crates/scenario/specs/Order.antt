@@ -88,10 +88,11 @@ module _ (a b : ToxicCard) (f : Fuller a b) where
   vapor-faster endpoint plume =
       record {
         rate =
-          subst (λ k. gasRate (a .quantity .0) (isBuilding (a .containment)) ≤ gasRate (b .quantity .0) k)
-          (same-kind (f .containment))
-          (gas-mono (isBuilding (a .containment)) (f .quantity));
-        endpoint = refl }
+            subst (λ k. gasRate (a .quantity .0) (isBuilding (a .containment)) ≤ gasRate (b .quantity .0) k)
+            (same-kind (f .containment))
+            (gas-mono (isBuilding (a .containment)) (f .quantity));
+        endpoint = refl;
+      }
 
   pool-faster : (df lf tcf : ℕ) (shed : Bool) (endpoint : ℕ) (plume : Plume) → Faster (poolOf a df lf tcf shed endpoint plume) (poolOf b df lf tcf shed endpoint plume)
   unfolding poolOf

@@ -58,31 +58,37 @@ ammoniaTable Liquid = 10
 -- "Chlorine: 11. Sulfur dioxide (7446095): 12." The last argument says whether the 10-minute table is selected.
 unfoldable pub tableOf : ℕ → State → Plume → Ground → Bool → ℕ
 tableOf cas state plume ground ten =
-    elim (eqb cas 7664417)
-    [ true ↦ ammoniaTable state
-    | false ↦
-        elim (eqb cas 7782505)
-        [ true ↦ 11
-        | false ↦ elim (eqb cas 7446095) [ true ↦ 12 | false ↦ genericTable (plumeIn state plume) ground ten ] ] ]
+    elim (eqb cas 7664417) [
+      | true ↦ ammoniaTable state
+      | false ↦
+          elim (eqb cas 7782505) [
+            | true ↦ 11
+            | false ↦ elim (eqb cas 7446095) [ true ↦ 12 | false ↦ genericTable (plumeIn state plume) ground ten ]
+          ]
+    ]
 
 -- "the closest column of B-4, the higher at a midpoint; 25 °C counts as a column of factor 1, and lower temperatures read
 -- it"; above 50.0 °C no column is read. The columns stand at 25, 30, 35, 40, 45 and 50 °C, temperatures are in tenths.
 unfoldable pub columnOf : ℤ → Column
 columnOf t =
-    elim (ltZ (pos 500) t)
-    [ true ↦ Above
-    | false ↦
-        elim (ltZ t (pos 275))
-        [ true ↦ At25
-        | false ↦
-            elim (ltZ t (pos 325))
-            [ true ↦ At30
+    elim (ltZ (pos 500) t) [
+      | true ↦ Above
+      | false ↦
+          elim (ltZ t (pos 275)) [
+            | true ↦ At25
             | false ↦
-                elim (ltZ t (pos 375))
-                [ true ↦ At35
-                | false ↦
-                    elim (ltZ t (pos 425))
-                    [ true ↦ At40 | false ↦ elim (ltZ t (pos 475)) [ true ↦ At45 | false ↦ At50 ] ] ] ] ] ]
+                elim (ltZ t (pos 325)) [
+                  | true ↦ At30
+                  | false ↦
+                      elim (ltZ t (pos 375)) [
+                        | true ↦ At35
+                        | false ↦
+                            elim (ltZ t (pos 425))
+                            [ true ↦ At40 | false ↦ elim (ltZ t (pos 475)) [ true ↦ At45 | false ↦ At50 ] ]
+                      ]
+                ]
+          ]
+    ]
 
 -- "LFA and the TCF of the closest column"; "Where B-4 prints LFB instead of a factor: LFB, TCF 1."
 abbrev pub ofCell : ℕ → ℕ → Cell → Factors
@@ -108,7 +114,8 @@ vaporOf card endpoint plume =
       route = 1;
       table = tableOf (card .cas) (card .state) plume (card .ground) true;
       rate = record { 0 = gasRate (card .quantity .0) (isBuilding (card .containment)) };
-      endpoint = endpoint }
+      endpoint = endpoint;
+    }
 
 -- "Route 2, pool: 1.4 × LF × area × TCF; for state 4 in a building × 0.1 as well", and its duration's table
 unfoldable pub poolOf : ToxicCard → ℕ → ℕ → ℕ → Bool → ℕ → Plume → Scenario
@@ -117,9 +124,10 @@ poolOf card df lf tcf shed endpoint plume =
     record {
       route = 2;
       table =
-        tableOf (card .cas) (card .state) plume (card .ground) (atMostTenMinutes (card .quantity .0) rate);
+          tableOf (card .cas) (card .state) plume (card .ground) (atMostTenMinutes (card .quantity .0) rate);
       rate = record { 0 = rate };
-      endpoint = endpoint }
+      endpoint = endpoint;
+    }
 
 -- "dike in 1 or 2" is refused: a gas that leaves by itself meets no dike
 abbrev pub undiked : Containment → Scenario → Planned

@@ -1,9 +1,13 @@
 // Route, rate and choice of table of a toxic card: what the guidance does between a card's meaning and the tables.
 use dispersion::Ground;
-use exhibits::{Cell, Gas, Liquid, Plume, Toxic};
+use exhibits::Cell;
+use exhibits::Gas;
+use exhibits::Liquid;
+use exhibits::Plume;
+use exhibits::Toxic;
 use release::Containment;
-use units::{Pounds, PoundsPerMinute};
-
+use units::Pounds;
+use units::PoundsPerMinute;
 ghost use mathlib.Core.Path.{_≡_};
 ghost use Prim.Native.Nat.{_≤_};
 ghost use lib.Signed.{ltZ};
@@ -115,7 +119,7 @@ fn table(cas: u32, state: State, plume: Plume, ground: Ground, ten_minutes: bool
 }
 
 // Whether a temperature is below a limit, both in signed tenths.
-fn below(tenths: i16, limit: i16) -> bool
+pub fn below(tenths: i16, limit: i16) -> bool
     ensures { λ r. ⌜ r ≡ ltZ tenths limit ⌝ }
 {
     tenths < limit

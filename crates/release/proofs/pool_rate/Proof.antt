@@ -8,15 +8,15 @@ use Rattle.release.proofs.pool_rate.Lts as lts
 
 -- src/lib.rt:122:24
 mul-product : tie.Need-mul-product
-mul-product c = let b = product-below (c  .args .lf) (c  .args .tcf) (c  .args .area .0) (c  .pre .0) (c  .pre .1 .0) (c  .pre .1 .1) in omega arith
+mul-product c = let b = product-below (c .args .lf) (c .args .tcf) (c .args .area .0) (c .pre .0) (c .pre .1 .0) (c .pre .1 .1) in omega arith
 
 -- src/lib.rt:122:24
 mul-product-2 : tie.Need-mul-product-2
-mul-product-2 c = let b = product-below (c  .args .lf) (c  .args .tcf) (c  .args .area .0) (c  .pre .0) (c  .pre .1 .0) (c  .pre .1 .1) in omega arith
+mul-product-2 c = let b = product-below (c .args .lf) (c .args .tcf) (c .args .area .0) (c .pre .0) (c .pre .1 .0) (c .pre .1 .1) in omega arith
 
 -- src/lib.rt:122:19
 mul-product-3 : tie.Need-mul-product-3
-mul-product-3 c = let b = product-below (c  .args .lf) (c  .args .tcf) (c  .args .area .0) (c  .pre .0) (c  .pre .1 .0) (c  .pre .1 .1) in omega arith
+mul-product-3 c = let b = product-below (c .args .lf) (c .args .tcf) (c .args .area .0) (c .pre .0) (c .pre .1 .0) (c .pre .1 .1) in omega arith
 
 -- src/lib.rt:124:26
 add-t13 : tie.Need-add-t13

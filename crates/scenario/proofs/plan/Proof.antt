@@ -15,7 +15,7 @@ enum-known-entry c = search needs
 
 -- src/lib.rt:347:28
 gas-plan-requires : tie.Need-gas-plan-requires
-gas-plan-requires c κs = 
+gas-plan-requires c κs =
     let l = c .before .before .before .pre in
     let w = subst Within (c .before .entry .given .1) (l .entry) in
     (l .quantity, (w .lfb-limit, w .df-limit))
@@ -26,7 +26,7 @@ enum-known-entry-2 c = search needs
 
 -- src/lib.rt:348:34
 liquid-plan-requires : tie.Need-liquid-plan-requires
-liquid-plan-requires c κs = 
+liquid-plan-requires c κs =
     let l = c .before .before .before .pre in
     let w = subst Within (c .before .entry2 .given .1) (l .entry) in
     (l .quantity, w)

@@ -1,0 +1,2 @@
+pub mod Farthest
+pub mod Laws

@@ -1,0 +1,33 @@
+use mathlib.Core.Path.{refl}
+use lib.IntN.{pos, negsuc}
+use lib.Signed.{ltZ}
+use Rattle.scenario.proofs.Ends.{turn}
+use Rattle.meaning.proofs.Ends.{heat-low, heat-high}
+use borrow.Author.Needs.{needs}
+use Rattle.meaning.proofs.bad_heat.Statement.{statement}
+use Rattle.meaning.proofs.bad_heat.Tie as tie
+use Rattle.meaning.proofs.bad_heat.Reads as reads
+use Rattle.meaning.proofs.bad_heat.Lts as lts
+use Rattle.scenario.proofs.below.Reads as below-reads
+
+-- src/lib.rt:242:8
+below-requires : tie.Need-below-requires
+below-requires c κs = search needs
+
+-- src/lib.rt:245:9
+below-requires-2 : tie.Need-below-requires-2
+below-requires-2 c κs = search needs
+
+-- src/lib.rt:239:1
+returns : tie.Need-returns
+returns c =
+    heat-low (c .before .before .args .tenths) (turn (λ z. ltZ z (negsuc 499)) (c .before .before .fits .tenths) (c .before .below .ensures) (c .if1 .taken))
+
+-- src/lib.rt:239:1
+returns-2 : tie.Need-returns-2
+returns-2 c =
+    let f = c .before .before .before .fits .tenths in
+    heat-high (c .before .before .before .args .tenths) (c .below2 .result) (turn (λ z. ltZ z (negsuc 499)) f (c .before .before .below .ensures) (c .before .if1 .left)) (turn (λ z. ltZ (pos 3_000) z) f (c .below2 .ensures) refl)
+
+pub bad-heat-spec : {M : Type 1} → statement M
+bad-heat-spec = tie.close (tie.spec below-requires below-requires-2 returns returns-2)

@@ -1,0 +1,364 @@
+// From the fields of a card to what it means, or to the first refusal whose condition holds.
+use dispersion::Ground;
+use exhibits::Toxic;
+use fields::Fields;
+use release::Building;
+use release::Containment;
+use release::Dike;
+use scenario::State;
+use scenario::ToxicCard;
+use units::Pounds;
+ghost use mathlib.Core.Path.{_≡_};
+ghost use Rattle.meaning.specs.Reading.{numberOf, stateOf, groundOf, heldOf, heatFits, shapedState, blank, shapeOf, badNumber, badPounds, badArea, badWall, badHeat, signed, boundsOf, boundsRefusal, BoundsLimits, isListed, toxicMeaning, flammableOf, meaningOf, MeaningLimits};
+ghost use Rattle.exhibits.specs.Exhibits.{toxicOf};
+ghost use Rattle.scenario.specs.Plan.{Limits};
+
+// Why a register is sent back: document 01's numbers 1 to 11, in its order.
+pub enum Refusal {
+    Length,
+    Version,
+    Count,
+    Buffer,
+    Number,
+    Form,
+    Unlisted,
+    Quantity,
+    Range,
+    Mismatch,
+    Beyond,
+}
+
+// Byte 1, taken apart.
+pub enum StateByte {
+    Is(State),
+    Unlisted,
+}
+
+// Byte 2, taken apart.
+pub enum GroundByte {
+    Is(Ground),
+    Unlisted,
+}
+
+// Byte 3 with the area and the wall, taken apart.
+pub enum Held {
+    Is(Containment),
+    Filled,
+}
+
+// How a toxic card's vessel stands.
+pub struct Standing {
+    pub state: State,
+    pub ground: Ground,
+    pub containment: Containment,
+}
+
+// What kind of card the bytes make.
+pub enum Shape {
+    Toxic(Standing),
+    Flammable,
+    Refused(Refusal),
+}
+
+// The temperature of a card whose numbers are all in range, in signed tenths.
+pub enum Bounds {
+    Within(i16),
+    Refused(Refusal),
+}
+
+// What a flammable card means.
+pub struct FlammableCard {
+    pub cas: u32,
+    pub quantity: Pounds,
+}
+
+// What a card means, or why it is sent back.
+pub enum Meaning {
+    Toxic(ToxicCard),
+    Flammable(FlammableCard),
+    Refused(Refusal),
+}
+
+// Document 01's number of a refusal.
+pub fn number(refusal: Refusal) -> u8
+    ensures { λ r. ⌜ r ≡ numberOf refusal ⌝ }
+{
+    match refusal {
+        Refusal::Length => 1,
+        Refusal::Version => 2,
+        Refusal::Count => 3,
+        Refusal::Buffer => 4,
+        Refusal::Number => 5,
+        Refusal::Form => 6,
+        Refusal::Unlisted => 7,
+        Refusal::Quantity => 8,
+        Refusal::Range => 9,
+        Refusal::Mismatch => 10,
+        Refusal::Beyond => 11,
+    }
+}
+
+fn state_of(byte: u8) -> StateByte
+    ensures { λ r. ⌜ r ≡ stateOf byte ⌝ }
+{
+    if byte == 1 {
+        return StateByte::Is(State::Gas);
+    }
+    if byte == 2 {
+        return StateByte::Is(State::Pressurized);
+    }
+    if byte == 3 {
+        return StateByte::Is(State::Refrigerated);
+    }
+    if byte == 4 {
+        return StateByte::Is(State::Liquid);
+    }
+    StateByte::Unlisted
+}
+
+fn ground_of(byte: u8) -> GroundByte
+    ensures { λ r. ⌜ r ≡ groundOf byte ⌝ }
+{
+    if byte == 1 {
+        return GroundByte::Is(Ground::Rural);
+    }
+    if byte == 2 {
+        return GroundByte::Is(Ground::Urban);
+    }
+    GroundByte::Unlisted
+}
+
+fn open_of(area: u32) -> Held
+    ensures { λ r. ⌜ r ≡ Rattle.meaning.specs.Reading.openOf area ⌝ }
+{
+    if area == 0 {
+        return Held::Is(Containment::Open);
+    }
+    Held::Filled
+}
+
+fn held_of(byte: u8, area: u32, wall: u16) -> Held
+    ensures { λ r. ⌜ r ≡ heldOf byte area wall ⌝ }
+{
+    let feet = release::square_feet(area);
+    if byte == 1 {
+        return Held::Is(Containment::Dike(Dike { area: feet, wall }));
+    }
+    if wall != 0 {
+        return Held::Filled;
+    }
+    if byte == 2 {
+        return Held::Is(Containment::Building(Building { floor: feet }));
+    }
+    if byte == 0 {
+        return open_of(area);
+    }
+    Held::Filled
+}
+
+fn heat_fits(state: State, heat: u16) -> bool
+    ensures { λ r. ⌜ r ≡ heatFits state heat ⌝ }
+{
+    match state {
+        State::Gas => heat == 0,
+        State::Pressurized => heat == 0,
+        State::Refrigerated => heat == 0,
+        State::Liquid => true,
+    }
+}
+
+// Bytes 1 to 3 of a toxic card, and the fields that must be zero with them.
+fn toxic_shape(f: Fields) -> Shape
+    ensures { λ r. ⌜ r ≡ shapedState (stateOf (f .state)) f ⌝ }
+{
+    let first = state_of(f.state);
+    let StateByte::Is(state) = first else {
+        return Shape::Refused(Refusal::Form);
+    };
+    let second = held_of(f.containment, f.area, f.wall);
+    let Held::Is(containment) = second else {
+        return Shape::Refused(Refusal::Form);
+    };
+    let third = ground_of(f.ground);
+    let GroundByte::Is(ground) = third else {
+        return Shape::Refused(Refusal::Form);
+    };
+    if heat_fits(state, f.heat) {
+        return Shape::Toxic(Standing {
+            state,
+            ground,
+            containment,
+        });
+    }
+    Shape::Refused(Refusal::Form)
+}
+
+// Whether all that a flammable card leaves blank is zero.
+fn is_blank(f: Fields) -> bool
+    ensures { λ r. ⌜ r ≡ blank f ⌝ }
+{
+    let heat = f.wall as u64 + f.heat as u64;
+    let around = f.containment as u64 + (f.area as u64 + heat);
+    f.state as u64 + (f.ground as u64 + around) == 0
+}
+
+// What kind of card the bytes make.
+fn shape_of(f: Fields) -> Shape
+    ensures { λ r. ⌜ r ≡ shapeOf f ⌝ }
+{
+    if f.kind == 1 {
+        return toxic_shape(f);
+    }
+    if f.kind == 2 {
+        if is_blank(f) {
+            return Shape::Flammable;
+        }
+    }
+    Shape::Refused(Refusal::Form)
+}
+
+fn bad_number(number: u32, last: u32) -> bool
+    ensures { λ r. ⌜ r ≡ badNumber number last ⌝ }
+{
+    if number == 0 { true } else { number <= last }
+}
+
+fn bad_pounds(pounds: u32) -> bool
+    ensures { λ r. ⌜ r ≡ badPounds pounds ⌝ }
+{
+    if pounds == 0 {
+        true
+    } else {
+        10_000_000 < pounds
+    }
+}
+
+fn bad_area(containment: u8, area: u32) -> bool
+    ensures { λ r. ⌜ r ≡ badArea containment area ⌝ }
+{
+    if containment == 0 {
+        return false;
+    }
+    if area == 0 { true } else { 1_000_000 < area }
+}
+
+fn bad_heat(tenths: i16) -> bool
+    ensures { λ r. ⌜ r ≡ badHeat tenths ⌝ }
+{
+    if scenario::below(tenths, -500) {
+        true
+    } else {
+        scenario::below(3000, tenths)
+    }
+}
+
+// Two's complement.
+fn to_signed(heat: u16) -> i16
+    ensures { λ r. ⌜ r ≡ signed heat ⌝ }
+{
+    if heat < 32768 {
+        heat as i16
+    } else {
+        -1 - (65535 - heat) as i16
+    }
+}
+
+// The ranges of a toxic card's numbers, in turn, and its temperature.
+fn bounds_of(f: Fields) -> Bounds
+    ensures { λ r. ⌜ r ≡ boundsOf f ⌝ }
+    ensures { λ r. ⌜ BoundsLimits f r ⌝ }
+{
+    if bad_pounds(f.pounds) {
+        return Bounds::Refused(Refusal::Quantity);
+    }
+    if bad_area(f.containment, f.area) {
+        return Bounds::Refused(Refusal::Range);
+    }
+    if 10_000 < f.wall {
+        return Bounds::Refused(Refusal::Range);
+    }
+    let tenths = to_signed(f.heat);
+    if bad_heat(tenths) {
+        return Bounds::Refused(Refusal::Range);
+    }
+    Bounds::Within(tenths)
+}
+
+fn bounds_refusal(found: Bounds) -> Refusal
+    ensures { λ r. ⌜ r ≡ boundsRefusal found ⌝ }
+{
+    match found {
+        Bounds::Within(_) => Refusal::Range,
+        Bounds::Refused(refusal) => refusal,
+    }
+}
+
+fn is_listed(entry: Toxic) -> bool
+    ensures { λ r. ⌜ r ≡ isListed entry ⌝ }
+{
+    match entry {
+        Toxic::OfGas(_) => true,
+        Toxic::OfLiquid(_) => true,
+        Toxic::NotListed => false,
+    }
+}
+
+// A toxic card's meaning: its substance is listed and its numbers are in range.
+fn toxic_meaning(f: Fields, standing: Standing) -> Meaning
+    ensures { λ r. ⌜ r ≡ toxicMeaning (toxicOf (f .cas)) f standing ⌝ }
+    ensures { λ r. ⌜ MeaningLimits r ⌝ }
+{
+    let entry = exhibits::toxic_of(f.cas);
+    if !is_listed(entry) {
+        return Meaning::Refused(Refusal::Unlisted);
+    }
+    let found = bounds_of(f);
+    let Bounds::Within(temperature) = found else {
+        return Meaning::Refused(bounds_refusal(found));
+    };
+    let state = standing.state;
+    let ground = standing.ground;
+    let containment = standing.containment;
+    Meaning::Toxic(ToxicCard {
+        cas: f.cas,
+        entry,
+        state,
+        ground,
+        quantity: release::pounds(f.pounds),
+        temperature,
+        containment,
+    })
+}
+
+// A flammable card's meaning.
+fn flammable_meaning(f: Fields) -> Meaning
+    ensures { λ r. ⌜ r ≡ flammableOf f ⌝ }
+    ensures { λ r. ⌜ MeaningLimits r ⌝ }
+{
+    if !blast::is_flammable(f.cas) {
+        return Meaning::Refused(Refusal::Unlisted);
+    }
+    if bad_pounds(f.pounds) {
+        return Meaning::Refused(Refusal::Quantity);
+    }
+    Meaning::Flammable(FlammableCard {
+        cas: f.cas,
+        quantity: release::pounds(f.pounds),
+    })
+}
+
+// What a card means after the last card's number, or the first refusal whose condition holds.
+pub fn meaning_of(f: Fields, last: u32) -> Meaning
+    ensures { λ r. ⌜ r ≡ meaningOf f last ⌝ }
+    ensures { λ r. ⌜ MeaningLimits r ⌝ }
+{
+    if bad_number(f.number, last) {
+        return Meaning::Refused(Refusal::Number);
+    }
+    let shape = shape_of(f);
+    match shape {
+        Shape::Toxic(standing) => toxic_meaning(f, standing),
+        Shape::Flammable => flammable_meaning(f),
+        Shape::Refused(refusal) => Meaning::Refused(refusal),
+    }
+}

@@ -1,0 +1,48 @@
+use Rattle.register.specs.Laws.{all-case, all-filled, all-kept}
+use borrow.Author.Needs.{needs}
+use Rattle.register.proofs.answer_all.Statement.{statement}
+use Rattle.register.proofs.answer_all.Tie as tie
+use Rattle.register.proofs.answer_all.Reads as reads
+use Rattle.register.proofs.answer_all.Lts as lts
+use Rattle.register.proofs.fill_all.Reads as fill-all-reads
+use Rattle.register.proofs.survey.Reads as survey-reads
+
+-- src/lib.rt:77:9
+survey-requires : tie.Need-survey-requires
+survey-requires c κs = search needs
+
+-- src/lib.rt:79:27
+enum-known-outcome : tie.Need-enum-known-outcome
+enum-known-outcome c = search needs
+
+-- src/lib.rt:80:13
+fill-all-requires : tie.Need-fill-all-requires
+fill-all-requires c κs = search needs
+
+-- src/lib.rt:83:26
+enum-known-outcome-2 : tie.Need-enum-known-outcome-2
+enum-known-outcome-2 c = search needs
+
+-- src/lib.rt:72:1
+same-length : tie.Need-same-length
+same-length c = search needs
+
+-- src/lib.rt:72:1
+returns : tie.Need-returns
+returns c = search (all-case, all-filled, needs)
+
+-- src/lib.rt:72:1
+returns-2 : tie.Need-returns-2
+returns-2 c = search (all-case, all-kept, needs)
+
+pub answer-all-spec : {M : Type 1} → statement M
+answer-all-spec =
+    tie.close
+    (tie.spec
+    survey-requires
+    enum-known-outcome
+    fill-all-requires
+    enum-known-outcome-2
+    same-length
+    returns
+    returns-2)

@@ -1,0 +1,157 @@
+-- The walks of the code come to what a register is.
+-- Assumes nothing.
+use Prim.Native.Nat.{ℕ, zero, suc, _+_, _-_, _*_, _≤_}
+use native.Mathlib.Omega.{arith}
+use native.Mathlib.Nat.{zero-add}
+use mathlib.Core.Path.{_≡_, _∙_, refl, ap, ap₂, sym, subst}
+use mathlib.Core.List.{List, [], _∷_, _++_}
+use lib.ListN.{length, take, drop, length-append, length-drop}
+use lib.Seq.{sets, take-all}
+use Rattle.decimal.specs.Laws.{sets-append, written-first}
+use Rattle.meaning.specs.declared.Refusal.{Refusal}
+use Rattle.card.specs.declared.Answer.{Answer}
+use Rattle.card.specs.declared.Answered.{Answered}
+use Rattle.card.specs.declared.Answered.the-variants as answered
+use Rattle.card.specs.Answers.{answerOf}
+use Rattle.farthest.specs.declared.Leaders.{Leaders}
+use Rattle.farthest.specs.Farthest.{leadersAfter, leadersFrom, leadersOf, noLeaders}
+use Rattle.encode.specs.Bytes.{answerBytes}
+use Rattle.encode.specs.Laws.{length-answer}
+use Rattle.header.specs.declared.Header.{Header}
+use Rattle.header.specs.declared.Header.the-variants as header
+use Rattle.header.specs.Header.{headerOf, headerRefusal, HeaderFits, Fitting}
+use Rattle.register.specs.declared.Outcome.{Outcome}
+use Rattle.register.specs.declared.Outcome.the-variants as outcome
+use Rattle.register.specs.Register.{Cards, answers, sent-back, joined, then, cardsFrom, cardsOf, resultOf, afterHeader, outcomeOf, bytesOf, filledWith, filledAfter, bufferOf}
+use Rattle.register.specs.Walks.{surveyed, surveyFrom, filled, fillFrom}
+
+clash : {A : Type 0} → _≡_ {A = ℕ} 0 1 → A
+clash z = absurd (omega arith)
+
+-- the result of cards, with the leaders before them
+abbrev pub resultFrom : Leaders → Cards → Outcome
+resultFrom l (answers xs) = outcome.Accepted (leadersFrom l xs)
+resultFrom l (sent-back r place) = outcome.Refused r place
+
+result-joined : (l : Leaders) (a : Answer) (c : Cards) → resultFrom (leadersAfter l a) c ≡ resultFrom l (joined a c)
+unfolding leadersFrom
+result-joined l a (answers xs) = refl
+result-joined l a (sent-back r place) = refl
+
+-- the first walk gives the result
+pub survey-is : (n place last : ℕ) (bytes : List ℕ) (l : Leaders) → surveyFrom n place last bytes l ≡ resultFrom l (cardsFrom n place last bytes)
+unfolding surveyFrom cardsFrom leadersFrom
+survey-is zero place last bytes l = refl
+survey-is (suc n) place last bytes l =
+    go (answerOf (take 24 bytes) last) (λ a. survey-is n (suc place) (a .number) (drop 24 bytes) (leadersAfter l a))
+  where
+    go : (x : Answered) → ((a : Answer) → surveyFrom n (suc place) (a .number) (drop 24 bytes) (leadersAfter l a) ≡ resultFrom (leadersAfter l a) (cardsFrom n (suc place) (a .number) (drop 24 bytes))) → surveyed x place (λ (a : Answer). surveyFrom n (suc place) (a .number) (drop 24 bytes) (leadersAfter l a)) ≡ resultFrom l (then x place (λ k. cardsFrom n (suc place) k (drop 24 bytes)))
+    go (answered.Is a) ih = ih a ∙ result-joined l a (cardsFrom n (suc place) (a .number) (drop 24 bytes))
+    go (answered.Refused r) ih = refl
+
+-- an accepted result comes from cards that are all answered
+accepted-cards : (c : Cards) {l : Leaders} → resultOf c ≡ outcome.Accepted l → (xs : List Answer) × (c ≡ answers xs)
+accepted-cards (answers xs) e = (xs, refl)
+accepted-cards (sent-back r place) e = let z : _≡_ {A = ℕ} 0 1 = cc in clash z
+
+pub joined-is : (a : Answer) (c : Cards) {xs : List Answer} → joined a c ≡ answers xs → (ys : List Answer) × (c ≡ answers ys) × (a ∷ ys ≡ xs)
+joined-is a (answers ys) e = (ys, refl, answers-is e)
+  where
+    answers-is : {u v : List Answer} → answers u ≡ answers v → u ≡ v
+    answers-is q = cc
+joined-is a (sent-back r place) e = let z : _≡_ {A = ℕ} 0 1 = cc in clash z
+
+result-is : (c : Cards) → resultFrom noLeaders c ≡ resultOf c
+unfolding leadersOf
+result-is (answers xs) = refl
+result-is (sent-back r place) = refl
+
+-- the second walk, over cards that are all answered, writes their bytes one after the other
+pub fill-is : (n place last : ℕ) (bytes out : List ℕ) (xs : List Answer) → cardsFrom n place last bytes ≡ answers xs → fillFrom n place last bytes out ≡ sets out (16 * place) (bytesOf xs)
+unfolding fillFrom cardsFrom bytesOf
+fill-is zero place last bytes out [] e = refl
+fill-is zero place last bytes out (x ∷ xs) e = let z : _≡_ {A = ℕ} 0 1 = cc in clash z
+fill-is (suc n) place last bytes out xs e =
+    go (answerOf (take 24 bytes) last) (λ a b ys. fill-is n (suc place) (a .number) (drop 24 bytes) b ys) e
+  where
+    go : (x : Answered) → ((a : Answer) (b : List ℕ) (ys : List Answer) → cardsFrom n (suc place) (a .number) (drop 24 bytes) ≡ answers ys → fillFrom n (suc place) (a .number) (drop 24 bytes) b ≡ sets b (16 * suc place) (bytesOf ys)) → then x place (λ k. cardsFrom n (suc place) k (drop 24 bytes)) ≡ answers xs → filled x out (λ (a : Answer). fillFrom n (suc place) (a .number) (drop 24 bytes) (sets out (16 * place) (answerBytes a))) ≡ sets out (16 * place) (bytesOf xs)
+    go (answered.Is a) ih q =
+        let j = joined-is a (cardsFrom n (suc place) (a .number) (drop 24 bytes)) q in
+        let at : 16 * suc place ≡ 16 * place + length (answerBytes a) = omega (arith, length-answer a) in
+        ih a (sets out (16 * place) (answerBytes a)) (j .0) (j .1)
+        ∙ (ap (λ k. sets (sets out (16 * place) (answerBytes a)) k (bytesOf (j .0))) at
+        ∙ (sets-append (answerBytes a) (bytesOf (j .0)) out (16 * place) ∙ ap (λ ys. sets out (16 * place) (bytesOf ys)) (j .2)))
+    go (answered.Refused r) ih q = let z : _≡_ {A = ℕ} 0 1 = cc in clash z
+
+-- a register whose cards are all answered has one answer a card, and sixteen bytes for each
+pub cards-count : (n place last : ℕ) (bytes : List ℕ) (xs : List Answer) → cardsFrom n place last bytes ≡ answers xs → length xs ≡ n
+unfolding cardsFrom
+cards-count zero place last bytes [] e = refl
+cards-count zero place last bytes (x ∷ xs) e = let z : _≡_ {A = ℕ} 0 1 = cc in clash z
+cards-count (suc n) place last bytes xs e =
+    go (answerOf (take 24 bytes) last) (λ a ys. cards-count n (suc place) (a .number) (drop 24 bytes) ys) e
+  where
+    go : (x : Answered) → ((a : Answer) (ys : List Answer) → cardsFrom n (suc place) (a .number) (drop 24 bytes) ≡ answers ys → length ys ≡ n) → then x place (λ k. cardsFrom n (suc place) k (drop 24 bytes)) ≡ answers xs → length xs ≡ suc n
+    go (answered.Is a) ih q =
+        let j = joined-is a (cardsFrom n (suc place) (a .number) (drop 24 bytes)) q in
+        sym (ap length (j .2)) ∙ ap suc (ih a (j .0) (j .1))
+    go (answered.Refused r) ih q = let z : _≡_ {A = ℕ} 0 1 = cc in clash z
+
+pub bytes-length : (xs : List Answer) → length (bytesOf xs) ≡ 16 * length xs
+unfolding bytesOf
+bytes-length [] = refl
+bytes-length (a ∷ xs) =
+    let z : length (bytesOf xs) ≡ 16 * length xs = bytes-length xs in
+    omega (arith, length-append (answerBytes a) (bytesOf xs), length-answer a)
+
+-- both walks together: what the cards of a register answer and leave in the buffer
+module _ (n : ℕ) (bytes out : List ℕ) where
+  pub all-result : (x : Outcome) → x ≡ surveyFrom n 0 0 bytes noLeaders → x ≡ resultOf (cardsFrom n 0 0 bytes)
+  all-result x e = e ∙ (survey-is n 0 0 bytes noLeaders ∙ result-is (cardsFrom n 0 0 bytes))
+
+  filled-answers : (c : Cards) → cardsFrom n 0 0 bytes ≡ c → {l : Leaders} → resultOf c ≡ outcome.Accepted l → 16 * n ≤ length out → fillFrom n 0 0 bytes out ≡ filledWith c out
+  filled-answers (answers xs) e q h =
+      let k : length xs ≡ n = cards-count n 0 0 bytes xs e in
+      fill-is n 0 0 bytes out xs e ∙ written-first (bytesOf xs) out (omega (arith, bytes-length xs))
+  filled-answers (sent-back r place) e q h = let z : _≡_ {A = ℕ} 0 1 = cc in clash z
+
+  pub all-filled : (x : Outcome) (l : Leaders) (after : List ℕ) → x ≡ surveyFrom n 0 0 bytes noLeaders → x ≡ outcome.Accepted l → after ≡ fillFrom n 0 0 bytes out → 16 * n ≤ length out → after ≡ filledWith (cardsFrom n 0 0 bytes) out
+  all-filled x l after e q f h =
+      f ∙ filled-answers (cardsFrom n 0 0 bytes) refl (sym (all-result x e) ∙ q) h
+
+  kept-refused : (c : Cards) {r : Refusal} {place : ℕ} → resultOf c ≡ outcome.Refused r place → out ≡ filledWith c out
+  kept-refused (answers xs) e = let z : _≡_ {A = ℕ} 0 1 = cc in clash z
+  kept-refused (sent-back r place) e = refl
+
+  pub all-kept : (x : Outcome) (r : Refusal) (place : ℕ) → x ≡ surveyFrom n 0 0 bytes noLeaders → x ≡ outcome.Refused r place → out ≡ filledWith (cardsFrom n 0 0 bytes) out
+  all-kept x r place e q = kept-refused (cardsFrom n 0 0 bytes) (sym (all-result x e) ∙ q)
+
+  pub all-case : (x w : Outcome) → x ≡ surveyFrom n 0 0 bytes noLeaders → x ≡ w → w ≡ resultOf (cardsFrom n 0 0 bytes)
+  all-case x w e q = sym q ∙ all-result x e
+
+-- the whole call, from its header on
+module _ (bytes out : List ℕ) (h : Header) (e : h ≡ headerOf bytes (length out)) where
+  pub header-refused : (r s : Refusal) → h ≡ header.Refused r → s ≡ headerRefusal h → outcome.Refused s 0 ≡ outcomeOf bytes (length out)
+  unfolding outcomeOf
+  header-refused r s q g =
+      ap (λ y. outcome.Refused y 0) (g ∙ ap headerRefusal q) ∙ ap (λ y. afterHeader y bytes) (sym q ∙ e)
+
+  pub header-kept : (r : Refusal) → h ≡ header.Refused r → out ≡ bufferOf bytes out
+  unfolding bufferOf
+  header-kept r q = ap (λ y. filledAfter y bytes out) (sym q ∙ e)
+
+  behind : take (length bytes - 7) (drop 7 bytes) ≡ drop 7 bytes
+  behind = take-all (length bytes - 7) (drop 7 bytes) (omega (arith, length-drop 7 bytes))
+
+  pub header-good : (n : ℕ) (r : Outcome) → h ≡ header.Good n → r ≡ resultOf (cardsFrom n 0 0 (take (length bytes - 7) (drop 7 bytes))) → r ≡ outcomeOf bytes (length out)
+  unfolding outcomeOf cardsOf
+  header-good n r q g =
+      g ∙ (ap (λ y. resultOf (cardsFrom n 0 0 y)) behind ∙ ap (λ y. afterHeader y bytes) (sym q ∙ e))
+
+  pub header-filled : (n : ℕ) (after : List ℕ) → h ≡ header.Good n → after ≡ filledWith (cardsFrom n 0 0 (take (length bytes - 7) (drop 7 bytes))) out → after ≡ bufferOf bytes out
+  unfolding bufferOf cardsOf
+  header-filled n after q g =
+      g ∙ (ap (λ y. filledWith (cardsFrom n 0 0 y) out) behind ∙ ap (λ y. filledAfter y bytes out) (sym q ∙ e))
+
+  pub header-fitting : (n : ℕ) → HeaderFits bytes (length out) h → h ≡ header.Good n → Fitting bytes (length out) n
+  header-fitting n f q = subst (HeaderFits bytes (length out)) q f

@@ -1,0 +1,3 @@
+pub mod Register
+pub mod Walks
+pub mod Laws

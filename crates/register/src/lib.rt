@@ -1,0 +1,96 @@
+// A register: its cards checked in turn, then answered into the lent buffer.
+use card::Answered;
+use farthest::Leaders;
+use header::Header;
+use meaning::Refusal;
+ghost use mathlib.Core.Path.{_≡_};
+ghost use Prim.Native.Nat.{_*_, _≤_};
+ghost use lib.ListN.{length};
+ghost use Rattle.farthest.specs.Farthest.{noLeaders};
+ghost use Rattle.register.specs.Register.{answeredRefusal, cardsFrom, resultOf, filledWith, outcomeOf, bufferOf};
+ghost use Rattle.register.specs.Walks.{surveyFrom, fillFrom};
+
+// What a call answers: both classes' farthest, or a refusal and the place of its card.
+pub enum Outcome {
+    Accepted(Leaders),
+    Refused(Refusal, u32),
+}
+
+fn refusal_of(answered: Answered) -> Refusal
+    ensures { λ r. ⌜ r ≡ answeredRefusal answered ⌝ }
+{
+    match answered {
+        Answered::Is(_) => Refusal::Beyond,
+        Answered::Refused(refusal) => refusal,
+    }
+}
+
+// The first walk: every card is checked before a byte is written, and the leaders are kept on the way.
+fn survey(cards: &[u8], count: usize) -> Outcome
+    requires { ⌜ (count ≤ 2000) × (24 * count ≤ length (now cards)) ⌝ }
+    ensures { λ r. ⌜ r ≡ surveyFrom count 0 0 (now (cards .entry)) noLeaders ⌝ }
+{
+    let mut leaders = farthest::no_leaders();
+    let mut last = 0u32;
+    let mut place = 0usize;
+    while place < count {
+        let at = 24 * place;
+        let end = at + 24;
+        let answered = card::answer_of(&cards[at..end], last);
+        let Answered::Is(answer) = answered else {
+            return Outcome::Refused(refusal_of(answered), place as u32);
+        };
+        leaders = farthest::lead(leaders, answer);
+        last = answer.number;
+        place += 1;
+    }
+    Outcome::Accepted(leaders)
+}
+
+// The second walk: the answers, sixteen bytes a card. It stops at a card that has none, which the first walk rules out.
+fn fill_all(cards: &[u8], count: usize, out: &mut [u8])
+    requires { ⌜ (count ≤ 2000) × (24 * count ≤ length (now cards)) × (16 * count ≤ length (now out)) ⌝ }
+    ensures { λ _. ⌜ now (out .exit) ≡ fillFrom count 0 0 (now (cards .entry)) (now (out .entry)) ⌝ }
+{
+    let mut last = 0u32;
+    let mut place = 0usize;
+    while place < count {
+        let at = 24 * place;
+        let end = at + 24;
+        let answered = card::answer_of(&cards[at..end], last);
+        let Answered::Is(answer) = answered else {
+            return;
+        };
+        encode::put_answer(out, 16 * place, answer);
+        last = answer.number;
+        place += 1;
+    }
+}
+
+// Both walks over the cards behind the header: nothing is written where the first one refuses.
+fn answer_all(cards: &[u8], count: usize, answers: &mut [u8]) -> Outcome
+    requires { ⌜ (count ≤ 2000) × (24 * count ≤ length (now cards)) × (16 * count ≤ length (now answers)) ⌝ }
+    ensures { λ r. ⌜ r ≡ resultOf (cardsFrom count 0 0 (now (cards .entry))) ⌝ }
+    ensures { λ r. ⌜ now (answers .exit) ≡ filledWith (cardsFrom count 0 0 (now (cards .entry))) (now (answers .entry)) ⌝ }
+{
+    let outcome = survey(cards, count);
+    match outcome {
+        Outcome::Accepted(leaders) => {
+            fill_all(cards, count, answers);
+            Outcome::Accepted(leaders)
+        }
+        Outcome::Refused(refusal, place) => Outcome::Refused(refusal, place),
+    }
+}
+
+// The call that everyone uses: a register and a lent answer buffer. Every card is checked before a byte is written.
+pub fn fill(register: &[u8], answers: &mut [u8]) -> Outcome
+    ensures { λ r. ⌜ r ≡ outcomeOf (now (register .entry)) (length (now (answers .entry))) ⌝ }
+    ensures { λ r. ⌜ now (answers .exit) ≡ bufferOf (now (register .entry)) (now (answers .entry)) ⌝ }
+{
+    let header = header::header_of(register, answers.len());
+    let Header::Good(count) = header else {
+        return Outcome::Refused(header::header_refusal(header), 0);
+    };
+    answer_all(&register[7..], count, answers)
+}
