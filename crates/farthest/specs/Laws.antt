@@ -19,7 +19,7 @@ use Rattle.farthest.specs.declared.Farthest.the-variants as farthest
 use Rattle.farthest.specs.declared.Leaders.{Leaders}
 use Rattle.farthest.specs.Farthest.{pick, farther, inClass, leadIn, farthestFrom, farthestOf}
 use Rattle.farthest.specs.Farthest.{noLeaders, leadersAfter, leadersFrom, leadersOf}
-use Rattle.farthest.specs.Farthest.{At, Reaches, Nearer, NoFarther, NoCard, LeadsAt, Leads, Matched}
+use Rattle.farthest.specs.Farthest.{At, Reaches, Nearer, NoFarther, NoCard, Leads, Matched}
 
 -- ---- one card
 

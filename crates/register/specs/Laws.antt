@@ -129,29 +129,35 @@ module _ (n : ℕ) (bytes out : List ℕ) where
   pub all-case : (x w : Outcome) → x ≡ surveyFrom n 0 0 bytes noLeaders → x ≡ w → w ≡ resultOf (cardsFrom n 0 0 bytes)
   all-case x w e q = sym q ∙ all-result x e
 
+-- what stands behind the header, as the code takes it
+behind : (bytes : List ℕ) → take (length bytes - 7) (drop 7 bytes) ≡ drop 7 bytes
+behind bytes = take-all (length bytes - 7) (drop 7 bytes) (omega (arith, length-drop 7 bytes))
+
 -- the whole call, from its header on
-module _ (bytes out : List ℕ) (h : Header) (e : h ≡ headerOf bytes (length out)) where
-  pub header-refused : (r s : Refusal) → h ≡ header.Refused r → s ≡ headerRefusal h → outcome.Refused s 0 ≡ outcomeOf bytes (length out)
+module _ (bytes : List ℕ) (room : ℕ) (h : Header) (e : h ≡ headerOf bytes room) where
+  pub header-refused : (r s : Refusal) → h ≡ header.Refused r → s ≡ headerRefusal h → outcome.Refused s 0 ≡ outcomeOf bytes room
   unfolding outcomeOf
   header-refused r s q g =
       ap (λ y. outcome.Refused y 0) (g ∙ ap headerRefusal q) ∙ ap (λ y. afterHeader y bytes) (sym q ∙ e)
 
+  pub header-good : (n : ℕ) (r : Outcome) → h ≡ header.Good n → r ≡ resultOf (cardsFrom n 0 0 (take (length bytes - 7) (drop 7 bytes))) → r ≡ outcomeOf bytes room
+  unfolding outcomeOf cardsOf
+  header-good n r q g =
+      g ∙ (ap (λ y. resultOf (cardsFrom n 0 0 y)) (behind bytes) ∙ ap (λ y. afterHeader y bytes) (sym q ∙ e))
+
+  pub header-surveyed : (n : ℕ) (r : Outcome) → h ≡ header.Good n → r ≡ surveyFrom n 0 0 (take (length bytes - 7) (drop 7 bytes)) noLeaders → r ≡ outcomeOf bytes room
+  header-surveyed n r q g = header-good n r q (all-result n (take (length bytes - 7) (drop 7 bytes)) [] r g)
+
+  pub header-fitting : (n : ℕ) → HeaderFits bytes room h → h ≡ header.Good n → Fitting bytes room n
+  header-fitting n f q = subst (HeaderFits bytes room) q f
+
+-- and what it leaves in the buffer
+module _ (bytes out : List ℕ) (h : Header) (e : h ≡ headerOf bytes (length out)) where
   pub header-kept : (r : Refusal) → h ≡ header.Refused r → out ≡ bufferOf bytes out
   unfolding bufferOf
   header-kept r q = ap (λ y. filledAfter y bytes out) (sym q ∙ e)
 
-  behind : take (length bytes - 7) (drop 7 bytes) ≡ drop 7 bytes
-  behind = take-all (length bytes - 7) (drop 7 bytes) (omega (arith, length-drop 7 bytes))
-
-  pub header-good : (n : ℕ) (r : Outcome) → h ≡ header.Good n → r ≡ resultOf (cardsFrom n 0 0 (take (length bytes - 7) (drop 7 bytes))) → r ≡ outcomeOf bytes (length out)
-  unfolding outcomeOf cardsOf
-  header-good n r q g =
-      g ∙ (ap (λ y. resultOf (cardsFrom n 0 0 y)) behind ∙ ap (λ y. afterHeader y bytes) (sym q ∙ e))
-
   pub header-filled : (n : ℕ) (after : List ℕ) → h ≡ header.Good n → after ≡ filledWith (cardsFrom n 0 0 (take (length bytes - 7) (drop 7 bytes))) out → after ≡ bufferOf bytes out
   unfolding bufferOf cardsOf
   header-filled n after q g =
-      g ∙ (ap (λ y. filledWith (cardsFrom n 0 0 y) out) behind ∙ ap (λ y. filledAfter y bytes out) (sym q ∙ e))
-
-  pub header-fitting : (n : ℕ) → HeaderFits bytes (length out) h → h ≡ header.Good n → Fitting bytes (length out) n
-  header-fitting n f q = subst (HeaderFits bytes (length out)) q f
+      g ∙ (ap (λ y. filledWith (cardsFrom n 0 0 y) out) (behind bytes) ∙ ap (λ y. filledAfter y bytes out) (sym q ∙ e))

@@ -94,3 +94,14 @@ pub fn fill(register: &[u8], answers: &mut [u8]) -> Outcome
     };
     answer_all(&register[7..], count, answers)
 }
+
+// What the call would answer with a buffer of this length, and no byte is written: what a reader asks who lists a register.
+pub fn outcome_of(register: &[u8], room: usize) -> Outcome
+    ensures { λ r. ⌜ r ≡ outcomeOf (now (register .entry)) room ⌝ }
+{
+    let header = header::header_of(register, room);
+    let Header::Good(count) = header else {
+        return Outcome::Refused(header::header_refusal(header), 0);
+    };
+    survey(&register[7..], count)
+}

@@ -1,4 +1,4 @@
-use lib.ListN.{length-take, length-drop}
+use lib.ListN.{length, length-take, length-drop}
 use native.Mathlib.Omega.{arith}
 use denote.Ref.{now}
 use Rattle.register.specs.Laws.{header-refused, header-kept, header-good, header-filled, header-fitting}
@@ -32,15 +32,15 @@ returns : tie.Need-returns
 returns c =
     let a = c .before .before .before .before .before .before .args in
     let h = c .before .before .before .header-of .ensures in
-    (header-refused (now (a .register)) (now (a .answers)) _ (h .0) _ (c .header-refusal .result) (c .before .enum-told .given .1) (c .header-refusal .ensures), header-kept (now (a .register)) (now (a .answers)) _ (h .0) _ (c .before .enum-told .given .1))
+    (header-refused (now (a .register)) (length (now (a .answers))) _ (h .0) _ (c .header-refusal .result) (c .before .enum-told .given .1) (c .header-refusal .ensures), header-kept (now (a .register)) (now (a .answers)) _ (h .0) _ (c .before .enum-told .given .1))
 
 -- src/lib.rt:96:16
 sub-answer-all : tie.Need-sub-answer-all
-sub-answer-all c = let f = header-fitting (now (c .before .before .before .before .before .before .args .register)) (now (c .before .before .before .before .before .before .args .answers)) _ (c .before .before .before .header-of .ensures .0) _ (c .before .before .before .header-of .ensures .1) (c .before .header .given .1) in omega arith
+sub-answer-all c = let f = header-fitting (now (c .before .before .before .before .before .before .args .register)) (length (now (c .before .before .before .before .before .before .args .answers))) _ (c .before .before .before .header-of .ensures .0) _ (c .before .before .before .header-of .ensures .1) (c .before .header .given .1) in omega arith
 
 -- src/lib.rt:96:16
 part-answer-all-start : tie.Need-part-answer-all-start
-part-answer-all-start c = let f = header-fitting (now (c .before .before .before .before .before .before .args .register)) (now (c .before .before .before .before .before .before .args .answers)) _ (c .before .before .before .header-of .ensures .0) _ (c .before .before .before .header-of .ensures .1) (c .before .header .given .1) in omega arith
+part-answer-all-start c = let f = header-fitting (now (c .before .before .before .before .before .before .args .register)) (length (now (c .before .before .before .before .before .before .args .answers))) _ (c .before .before .before .header-of .ensures .0) _ (c .before .before .before .header-of .ensures .1) (c .before .header .given .1) in omega arith
 
 -- src/lib.rt:96:16
 part-answer-all-end : tie.Need-part-answer-all-end
@@ -48,7 +48,7 @@ part-answer-all-end c = search needs
 
 -- src/lib.rt:96:5
 answer-all-requires : tie.Need-answer-all-requires
-answer-all-requires c κs = let f = header-fitting (now (c .before .before .before .before .before .before .before .before .args .register)) (now (c .before .before .before .before .before .before .before .before .args .answers)) _ (c .before .before .before .before .before .header-of .ensures .0) _ (c .before .before .before .before .before .header-of .ensures .1) (c .before .before .before .header .given .1) in
+answer-all-requires c κs = let f = header-fitting (now (c .before .before .before .before .before .before .before .before .args .register)) (length (now (c .before .before .before .before .before .before .before .before .args .answers))) _ (c .before .before .before .before .before .header-of .ensures .0) _ (c .before .before .before .before .before .header-of .ensures .1) (c .before .before .before .header .given .1) in
     (f .cards, simp (length-take, length-drop) (omega arith), f .answers)
 
 -- src/lib.rt:88:1

@@ -1,0 +1,111 @@
+-- The answer buffer, byte by byte, and what does not depend on it.
+-- Assumes nothing.
+use Prim.Native.Nat.{ℕ, zero, suc, _+_, _-_, _*_, _≤_, _<_}
+use native.Mathlib.Omega.{arith}
+use mathlib.Core.Path.{_≡_, _∙_, refl, sym, ap, subst}
+use mathlib.Core.Bool.{Bool, true, false}
+use mathlib.Core.List.{List, [], _∷_, _++_, append-assoc}
+use lib.ListN.{length, getD, take, drop, List·getD-append}
+use lib.Seq.{getD-append-add, getD-drop}
+use borrow.Author.Tests.{le-ltb}
+use Rattle.meaning.specs.declared.Refusal.{Refusal}
+use Rattle.meaning.specs.declared.Refusal.the-variants as refusal
+use Rattle.card.specs.declared.Answer.{Answer}
+use Rattle.card.specs.declared.Answered.the-variants as answered
+use Rattle.card.specs.Answers.{answerOf}
+use Rattle.farthest.specs.declared.Leaders.{Leaders}
+use Rattle.farthest.specs.Farthest.{At, leadersOf}
+use Rattle.encode.specs.Bytes.{answerBytes}
+use Rattle.encode.specs.Laws.{length-answer}
+use Rattle.header.specs.declared.Header.{Header}
+use Rattle.header.specs.declared.Header.the-variants as header
+use Rattle.header.specs.Header.{badLength, badVersion, badCount, badBuffer, headerIf, headerOf, countOf}
+use Rattle.register.specs.declared.Outcome.{Outcome}
+use Rattle.register.specs.declared.Outcome.the-variants as outcome
+use Rattle.register.specs.Register.{Cards, answers, sent-back, cardsFrom, cardsOf, resultOf, afterHeader, outcomeOf, bytesOf, filledWith, filledAfter, bufferOf}
+use Rattle.register.specs.Laws.{cards-count, bytes-length}
+use Rattle.ordering.specs.Claim.{cardAt, Accepts}
+use Rattle.ordering.specs.Found.{Found, found, header-count, to-card}
+
+clash : {A : Type 0} → _≡_ {A = ℕ} 0 1 → A
+clash z = absurd (omega arith)
+
+good-filled : (bytes out : List ℕ) (h : Header) {l : Leaders} (f : Found bytes l) → headerOf bytes (length out) ≡ h → afterHeader h bytes ≡ outcome.Accepted l → filledAfter h bytes out ≡ bytesOf (f .list) ++ drop (length (bytesOf (f .list))) out
+unfolding cardsOf
+good-filled bytes out (header.Good n) f p e =
+    ap (λ y. filledWith (cardsFrom y 0 0 (drop 7 bytes)) out) (sym (header-count bytes (length out) n p))
+    ∙ ap (λ y. filledWith y out) (f .cards)
+good-filled bytes out (header.Refused r) f p e = let z : _≡_ {A = ℕ} 0 1 = cc in clash z
+
+buffer-is : (bytes out : List ℕ) {l : Leaders} (e : Accepts bytes out l) → bufferOf bytes out ≡ bytesOf (found bytes (length out) e .list) ++ drop (length (bytesOf (found bytes (length out) e .list))) out
+unfolding bufferOf outcomeOf
+buffer-is bytes out e =
+    good-filled bytes out (headerOf bytes (length out)) (found bytes (length out) e) refl e
+
+-- the bytes of the answer at a place
+bytes-at : (xs : List Answer) (rest : List ℕ) (i j : ℕ) (a : Answer) → At xs i a → j < 16 → getD (bytesOf xs ++ rest) (16 * i + j) 0 ≡ getD (answerBytes a) j 0
+unfolding bytesOf
+bytes-at [] rest i j a h k = absurd h
+bytes-at (x ∷ xs) rest zero j a h k =
+    let z : 16 * 0 + j ≡ j = omega arith in
+    ap (λ n. getD ((answerBytes x ++ bytesOf xs) ++ rest) n 0) z
+    ∙ (ap (λ (b : List ℕ). getD b j 0) (append-assoc (answerBytes x) (bytesOf xs) rest)
+    ∙ (List·getD-append (answerBytes x) (bytesOf xs ++ rest) 0 j (omega (arith, length-answer x))
+    ∙ ap (λ (y : Answer). getD (answerBytes y) j 0) (sym h)))
+bytes-at (x ∷ xs) rest (suc i) j a h k =
+    let z : 16 * suc i + j ≡ length (answerBytes x) + (16 * i + j) = omega (arith, length-answer x) in
+    ap (λ n. getD ((answerBytes x ++ bytesOf xs) ++ rest) n 0) z
+    ∙ (ap (λ (b : List ℕ). getD b (length (answerBytes x) + (16 * i + j)) 0) (append-assoc (answerBytes x) (bytesOf xs) rest)
+    ∙ (getD-append-add (answerBytes x) (bytesOf xs ++ rest) (16 * i + j) 0 ∙ bytes-at xs rest i j a h k))
+
+-- What stands at byte 16 i + j of an accepted call's buffer: byte j of the answer of the card at place i.
+pub buffer-at : (bytes out : List ℕ) (l : Leaders) → Accepts bytes out l → (i j : ℕ) → i < countOf bytes → j < 16
+    → (a : Answer) × (last : ℕ) × (answerOf (cardAt bytes i) last ≡ answered.Is a) × (getD (bufferOf bytes out) (16 * i + j) 0 ≡ getD (answerBytes a) j 0)
+buffer-at bytes out l e i j h k =
+    let t = to-card bytes (length out) e i h in
+    let f = found bytes (length out) e in
+    (t .0, t .2, t .3, ap (λ (b : List ℕ). getD b (16 * i + j) 0) (buffer-is bytes out e) ∙ bytes-at (f .list) (drop (length (bytesOf (f .list))) out) i j (t .0) (t .1) k)
+
+-- Every byte beyond is the old one.
+pub buffer-beyond : (bytes out : List ℕ) (l : Leaders) → Accepts bytes out l → (k : ℕ) → 16 * countOf bytes ≤ k → getD (bufferOf bytes out) k 0 ≡ getD out k 0
+buffer-beyond bytes out l e k h =
+    let f = found bytes (length out) e in
+    let n : length (bytesOf (f .list)) ≤ k = omega (arith, bytes-length (f .list), cards-count (countOf bytes) 0 0 (drop 7 bytes) (f .list) (f .cards)) in
+    let z : k ≡ length (bytesOf (f .list)) + (k - length (bytesOf (f .list))) = omega arith in
+    ap (λ (b : List ℕ). getD b k 0) (buffer-is bytes out e)
+    ∙ (ap (λ m. getD (bytesOf (f .list) ++ drop (length (bytesOf (f .list))) out) m 0) z
+    ∙ (getD-append-add (bytesOf (f .list)) (drop (length (bytesOf (f .list))) out) (k - length (bytesOf (f .list))) 0
+    ∙ (getD-drop (length (bytesOf (f .list))) out (k - length (bytesOf (f .list))) 0 ∙ ap (λ m. getD out m 0) (sym z))))
+
+-- A refused call changes no byte.
+kept-cards : (c : Cards) (out : List ℕ) {r : Refusal} {place : ℕ} → resultOf c ≡ outcome.Refused r place → filledWith c out ≡ out
+kept-cards (answers xs) out e = let z : _≡_ {A = ℕ} 0 1 = cc in clash z
+kept-cards (sent-back r place) out e = refl
+
+kept-header : (h : Header) (bytes out : List ℕ) {r : Refusal} {place : ℕ} → afterHeader h bytes ≡ outcome.Refused r place → filledAfter h bytes out ≡ out
+kept-header (header.Good n) bytes out e = kept-cards (cardsOf n bytes) out e
+kept-header (header.Refused r) bytes out e = refl
+
+pub buffer-kept : (bytes out : List ℕ) (r : Refusal) (place : ℕ) → outcomeOf bytes (length out) ≡ outcome.Refused r place → bufferOf bytes out ≡ out
+unfolding outcomeOf bufferOf
+buffer-kept bytes out r place e = kept-header (headerOf bytes (length out)) bytes out e
+
+-- Acceptance and both farthest cards are the same with every buffer that number 4 lets pass.
+room-free : (a b c d e : Bool) (r s t u : Refusal) (m : Header) {n : ℕ} → headerIf a r (headerIf b s (headerIf c t (headerIf d u m))) ≡ header.Good n → e ≡ false → headerIf a r (headerIf b s (headerIf c t (headerIf e u m))) ≡ header.Good n
+room-free true b c d e r s t u m p q = let z : _≡_ {A = ℕ} 0 1 = cc in clash z
+room-free false true c d e r s t u m p q = let z : _≡_ {A = ℕ} 0 1 = cc in clash z
+room-free false false true d e r s t u m p q = let z : _≡_ {A = ℕ} 0 1 = cc in clash z
+room-free false false false true e r s t u m p q = let z : _≡_ {A = ℕ} 0 1 = cc in clash z
+room-free false false false false true r s t u m p q = let z : _≡_ {A = ℕ} 0 1 = cc in clash z
+room-free false false false false false r s t u m p q = p
+
+any-header : (bytes : List ℕ) (room other : ℕ) (h : Header) {l : Leaders} → headerOf bytes room ≡ h → 16 * countOf bytes ≤ other → afterHeader h bytes ≡ outcome.Accepted l → afterHeader (headerOf bytes other) bytes ≡ outcome.Accepted l
+unfolding headerOf badBuffer
+any-header bytes room other (header.Good n) p k e =
+    let q : headerOf bytes other ≡ header.Good n = room-free (badLength bytes) (badVersion bytes) (badCount bytes) (badBuffer bytes room) (badBuffer bytes other) refusal.Length refusal.Version refusal.Count refusal.Buffer (header.Good (countOf bytes)) p (le-ltb other (16 * countOf bytes) k) in
+    ap (λ y. afterHeader y bytes) q ∙ e
+any-header bytes room other (header.Refused r) p k e = let z : _≡_ {A = ℕ} 0 1 = cc in clash z
+
+pub any-buffer : (bytes out other : List ℕ) (l : Leaders) → Accepts bytes out l → 16 * countOf bytes ≤ length other → Accepts bytes other l
+unfolding outcomeOf
+any-buffer bytes out other l e k = any-header bytes (length out) (length other) (headerOf bytes (length out)) refl k e
