@@ -9,17 +9,16 @@ use mathlib.Core.List.{List, [], _∷_, map}
 use mathlib.Core.Bool.{true, false}
 use lib.Dec.{ltb}
 use lib.ListN.{length, getD, length-map, List·getD-map}
-use borrow.Author.Tests.{lt-leb}
 use Rattle.search.specs.Rising.{firstAtLeast}
 use Rattle.search.specs.Laws.{first-within}
 use Rattle.dispersion.specs.declared.Ground.{Ground}
 use Rattle.dispersion.specs.declared.Ground.the-variants.{Rural, Urban}
 use Rattle.dispersion.specs.Printed.{Mark, Range, Line}
 use Rattle.dispersion.specs.PrintedDense.{rates5, endpoints5, table5, table6, table7, table8}
-use Rattle.dispersion.specs.Rules.{distance, inUse, fromColumn, larger, smaller, thousandths, closestRow, closestColumn, lastOf, answered, byRow, holding, markOf, byRange}
+use Rattle.dispersion.specs.Rules.{distance, inUse, fromColumn, larger, smaller, thousandths, closestRow, closestColumn, lastOf, answered, byRow, holding, past, markOf, byRange}
 use Rattle.dispersion.specs.Tables.{lines, readIn, rateOf, entryOf, tables, readingOf}
 use Rattle.dispersion.specs.Cuts.{cuts, cutsFrom, climbs, climbsFrom, columnOf, uppers, scaled}
-use Rattle.dispersion.specs.Laws.{row-by-cuts, column-by-cuts, holding-by-bounds}
+use Rattle.dispersion.specs.Laws.{row-by-cuts, column-by-cuts, holding-by-bounds, never-past}
 use Rattle.dispersion.proofs.Arrays.{running, in-use-at, gridInUse, grid-at, flat, flat-at, allLong}
 
 -- Tables 1 to 4: the bounds, and the entries in use with the open range's last
@@ -36,7 +35,7 @@ range-means table bounds entries b e l rate endpoint =
     omega (arith, first-within (suc (1000 * rate)) (scaled endpoint bounds), length-map bounds (λ bound. bound * endpoint)) in
     let here : getD entries place 0 ≡ inUse marks place =
     ap (λ xs. getD xs place 0) e ∙ in-use-at marks place (omega (arith, length-map table (λ range. distance (markOf range)))) in
-    rw (held, lt-leb (length table) place within) (ap (λ d. answered false d) here)
+    rw (held, never-past rate endpoint table (l ∙ ap (λ (xs : List ℕ). suc (length xs)) b)) (ap (λ d. answered false d) here)
 
 -- a table of rows: the cut points, the last row's rate and the entries in use of a column
 row-means : (rates entries points : List ℕ) (last : ℕ) (column : List ℕ) → points ≡ cuts larger (thousandths rates)

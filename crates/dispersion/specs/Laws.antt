@@ -19,7 +19,7 @@ use Rattle.units.specs.declared.Reading.{Reading}
 use Rattle.units.specs.declared.Reading.the-variants.{Distance, Beyond}
 use Rattle.dispersion.specs.declared.Ground.{Ground}
 use Rattle.dispersion.specs.Printed.{Mark, blank, Range, closed, above}
-use Rattle.dispersion.specs.Rules.{distance, largest, inUse, larger, smaller, thousandths, closestRow, closestColumn, lastOf, mileLimit, answered, byRow, ratioBelow, holding, markOf, byRange}
+use Rattle.dispersion.specs.Rules.{distance, largest, inUse, larger, smaller, thousandths, closestRow, closestColumn, lastOf, mileLimit, answered, byRow, ratioBelow, holding, past, markOf, byRange}
 use Rattle.dispersion.specs.Tables.{Table, ranges, grid, lines, unprinted, tables, rateOf, readIn, readingOf}
 use Rattle.dispersion.specs.Cuts.{cuts, climbs, climbsFrom, uppers, scaled}
 use Rattle.dispersion.specs.Closest.{closest-by-cuts, Nearest, closest-nearest}
@@ -94,6 +94,17 @@ holding-by-bounds rate endpoint (closed from upto mark ∷ rest) =
     ap (λ n. elim (ltb (1000 * rate) (upto * endpoint)) as (λ _. ℕ) [ true ↦ 0 | false ↦ suc n ]) (holding-by-bounds rate endpoint rest)
 holding-by-bounds rate endpoint (above from mark ∷ rest) = refl
 
+-- a table whose last range is open has a range for every ratio
+pub never-past : (rate endpoint : ℕ) (table : List Range) → length table ≡ suc (length (uppers table)) → past rate endpoint table ≡ false
+unfolding past uppers
+never-past rate endpoint [] e = absurd (omega arith)
+never-past rate endpoint (above from mark ∷ rest) e = refl
+never-past rate endpoint (closed from upto mark ∷ []) e = absurd (omega arith)
+never-past rate endpoint (closed from upto mark ∷ (next ∷ rest)) e = never-past rate endpoint (next ∷ rest) (suc-is e)
+  where
+    suc-is : {m n : ℕ} → suc m ≡ suc n → m ≡ n
+    suc-is q = omega arith
+
 -- rate / endpoint lies in a range: at or above its lower bound and below its upper one
 unfoldable pub Holds : ℕ → ℕ → Range → Type 0
 Holds rate endpoint (closed from upto mark) = (from * endpoint ≤ 1000 * rate) × (1000 * rate < upto * endpoint)
@@ -161,7 +172,7 @@ range-mono : (table : List Range) (e r s : ℕ) (d f : Miles) → r ≤ s
     → byRange table r e ≡ Distance d → byRange table s e ≡ Distance f → d .0 ≤ f .0
 unfolding byRange
 range-mono table e r s d f h p q =
-    read-mono (leb (length table) (holding r e table)) (leb (length table) (holding s e table)) (map (λ range. distance (markOf range)) table)
+    read-mono (past r e table) (past s e table) (map (λ range. distance (markOf range)) table)
     (holding r e table)
     (holding s e table)
     d

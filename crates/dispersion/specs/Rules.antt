@@ -107,9 +107,16 @@ unfoldable pub markOf : Range → Mark
 markOf (closed from upto mark) = mark
 markOf (above from mark) = mark
 
--- "above a closed last range the same rule as above the last row holds": there no range holds it
+-- "above a closed last range": the ratio is larger than the upper bound of the last range, which nobody shares
+unfoldable pub past : ℕ → ℕ → List Range → Bool
+past rate endpoint [] = true
+past rate endpoint (above from mark ∷ rest) = false
+past rate endpoint (closed from upto mark ∷ []) = ltb (upto * endpoint) (1000 * rate)
+past rate endpoint (closed from upto mark ∷ (next ∷ rest)) = past rate endpoint (next ∷ rest)
+
+-- "above a closed last range the same rule as above the last row holds"; at its upper bound the last range is read
 unfoldable pub byRange : List Range → ℕ → ℕ → Reading
 byRange table rate endpoint =
     answered
-    (leb (length table) (holding rate endpoint table))
+    (past rate endpoint table)
     (inUse (map (λ range. distance (markOf range)) table) (holding rate endpoint table))

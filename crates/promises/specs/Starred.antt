@@ -14,7 +14,7 @@ use Rattle.blast.specs.Printed13.{quantities, table13}
 use Rattle.dispersion.specs.PrintedNeutral.{table1, table2, table3, table4}
 use Rattle.dispersion.specs.PrintedDense.{endpoints5, endpoints6, endpoints7, endpoints8, rates5, rates6, rates7, rates8, table5, table6, table7, table8}
 use Rattle.dispersion.specs.PrintedChemical.{table9, table10, table11, table12}
-use Rattle.dispersion.specs.Rules.{answered as answeredIn, apart, byRange, byRow, closest, closestColumn, closestFrom, closestRow, distance, fromColumn, holding, inUse, larger, largest, lastOf, markOf, ratioBelow, smaller, thousandths}
+use Rattle.dispersion.specs.Rules.{answered as answeredIn, apart, byRange, byRow, closest, closestColumn, closestFrom, closestRow, distance, fromColumn, holding, inUse, larger, largest, lastOf, markOf, past, ratioBelow, smaller, thousandths}
 use Rattle.dispersion.specs.Tables.{readIn, readingOf, tables}
 use Rattle.scenario.specs.Plan.{columnOf, planOf, poolOf, tableOf, vaporOf}
 use Rattle.header.specs.Header.{badBuffer, badCount, badLength, badVersion, headerOf}
@@ -105,7 +105,7 @@ given c = areaWhere (c .area) (areaOf (meaningOf (fieldsOf (c .card)) 0)) ∷ ra
 
 -- all that the cases compute with
 computed : Unit {0}
-unfolding answerOf fieldsOf badArea badHeat badNumber badPounds badWall blank boundsOf flammableOf groundOf heldOf meaningOf openOf shapeOf signed stateOf toxicMeaning factorsOf toxicOf b1 b2 b4 firstAtLeast among lookUp blastReading isFlammable rowOf entryAt quantities table13 table1 table2 table3 table4 endpoints5 endpoints6 endpoints7 endpoints8 rates5 rates6 rates7 rates8 table5 table6 table7 table8 table9 table10 table11 table12 answeredIn apart byRange byRow closest closestColumn closestFrom closestRow distance fromColumn holding inUse larger largest lastOf markOf ratioBelow smaller thousandths readIn readingOf tables columnOf planOf poolOf tableOf vaporOf atMostTenMinutes dikedArea poolRate twoBytes fourBytes
+unfolding answerOf fieldsOf badArea badHeat badNumber badPounds badWall blank boundsOf flammableOf groundOf heldOf meaningOf openOf shapeOf signed stateOf toxicMeaning factorsOf toxicOf b1 b2 b4 firstAtLeast among lookUp blastReading isFlammable rowOf entryAt quantities table13 table1 table2 table3 table4 endpoints5 endpoints6 endpoints7 endpoints8 rates5 rates6 rates7 rates8 table5 table6 table7 table8 table9 table10 table11 table12 answeredIn apart byRange byRow closest closestColumn closestFrom closestRow distance fromColumn holding inUse larger largest lastOf markOf past ratioBelow smaller thousandths readIn readingOf tables columnOf planOf poolOf tableOf vaporOf atMostTenMinutes dikedArea poolRate twoBytes fourBytes
 computed = tt
 
 pub starred : map given cases ≡ map asked cases

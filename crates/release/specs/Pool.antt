@@ -15,8 +15,7 @@ ceilDiv a b = (a + (b - 1)) / b
 abbrev pub fullArea : ℕ → ℕ → ℕ
 fullArea pounds df = pounds * df
 
--- what a dike of this area and wall holds, and the depth of a pool over its full area, both as volumes in hundred-thousandths
--- of a cubic foot times ten: diked area × wall, and full area × 0.033
+-- "diked area × wall" and "full area × 0.033", both in hundred-thousandths of a cubic foot
 abbrev pub held : ℕ → ℕ → ℕ
 held area wall = 10 * (area * wall)
 

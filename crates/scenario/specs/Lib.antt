@@ -1,3 +1,4 @@
 pub mod Plan
 pub mod Laws
 pub mod Order
+pub mod Columns
