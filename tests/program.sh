@@ -1,0 +1,32 @@
+#!/usr/bin/env bash
+# Runs the built listing program on the examples, on a slow pipe, on input that is too long, and where it cannot write.
+set -euo pipefail
+cd "$(dirname "$0")/.."
+rings=target/bin/rings
+
+for source in examples/*.txt; do
+    name=${source%.txt}
+    python3 tools/register.py "$source" | cmp - "$name.register"
+    "$rings" <"$name.register" | diff - "$name.listing"
+done
+
+# short reads: a byte at a time through a pipe
+python3 - examples/document-01.register <<'PY' | "$rings" | diff - examples/document-01.listing
+import os, sys, time
+for byte in open(sys.argv[1], "rb").read():
+    os.write(1, bytes([byte]))
+    time.sleep(0.001)
+PY
+
+# the longest input that is looked at, and one byte more
+head -c 48007 /dev/zero | "$rings" | diff - <(echo "refused 1 at 0")
+head -c 48008 /dev/zero | "$rings" | diff - <(echo "too long")
+head -c 1000000 /dev/zero | "$rings" | diff - <(echo "too long")
+"$rings" </dev/null | diff - <(echo "refused 1 at 0")
+
+# errors are said on standard error and nothing is listed
+"$rings" <examples 2>target/rings-error | diff - /dev/null
+test -s target/rings-error
+"$rings" <examples/document-01.register >/dev/full 2>target/rings-error || true
+test -s target/rings-error
+echo "the program lists $(ls examples/*.txt | wc -l) examples as stored"
