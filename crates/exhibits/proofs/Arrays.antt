@@ -117,6 +117,13 @@ module _ (row : ℕ) (h : row < 74) where
       let limits = within (getD order row 0) in
       same-cells x (pa ∙ cell-back (x .at30) (limits .at30-limit)) (pb ∙ cell-back (x .at35) (limits .at35-limit)) (pc ∙ cell-back (x .at40) (limits .at40-limit)) (pd ∙ cell-back (x .at45) (limits .at45-limit)) (pe ∙ cell-back (x .at50) (limits .at50-limit))
 
+  -- the five cells of a substance, out of an array that holds them all
+  pub corrections-from : (held : List ℕ) → held ≡ cells → (a b c d e : Cell) → a ≡ cellFrom (getD held (row * 5 + 0) 0) → b ≡ cellFrom (getD held (row * 5 + 1) 0) → c ≡ cellFrom (getD held (row * 5 + 2) 0) → d ≡ cellFrom (getD held (row * 5 + 3) 0) → e ≡ cellFrom (getD held (row * 5 + 4) 0) → _≡_ {A = Corrections} (record { at30 = a; at35 = b; at40 = c; at45 = d; at50 = e }) (correctionsOf (toxicAt row))
+  corrections-from held same a b c d e pa pb pc pd pe =
+      let at : (place : ℕ) → place < 5 → cellFrom (getD held (row * 5 + place) 0) ≡ cellAt row place =
+      λ place l. ap (λ (xs : List ℕ). cellFrom (getD xs (row * 5 + place) 0)) same ∙ cell-in place l in
+      corrections-in a b c d e (pa ∙ at 0 (omega arith)) (pb ∙ at 1 (omega arith)) (pc ∙ at 2 (omega arith)) (pd ∙ at 3 (omega arith)) (pe ∙ at 4 (omega arith))
+
   module _ (cas : ℕ) (at-row : row ≡ placeOf cas order) where
     this : toxicAt row ≡ toxicOf cas
     unfolding toxicAt

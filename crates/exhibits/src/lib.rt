@@ -10,9 +10,10 @@ use tables::IS_GAS;
 use tables::LFA;
 use tables::LFB;
 ghost use mathlib.Core.Path.{_≡_};
-ghost use Prim.Native.Nat.{_<_};
+ghost use Prim.Native.Nat.{_+_, _*_, _<_};
+ghost use lib.ListN.{length, getD};
 ghost use Rattle.exhibits.specs.Exhibits.{toxicOf};
-ghost use Rattle.exhibits.specs.Columns.{toxicAt, cellAt, plumeFrom, cellFrom, gasFrom, liquidFrom, correctionsOf};
+ghost use Rattle.exhibits.specs.Columns.{toxicAt, plumeFrom, cellFrom, gasFrom, liquidFrom, correctionsOf};
 
 // How the worst-case plume behaves in air.
 pub enum Plume {
@@ -83,23 +84,26 @@ fn cell_from(code: u16) -> Cell
     Cell::Factor(code)
 }
 
-fn cell_at(row: usize, column: usize) -> Cell
-    requires { ⌜ (row < 74) × (column < 5) ⌝ }
-    ensures { λ r. ⌜ r ≡ cellAt row column ⌝ }
+// The cell of a substance in a column, out of the cells of all of them. The array is lent, so that five cells of one
+// substance need it only once.
+fn cell_in(codes: &[u16], row: usize, column: usize) -> Cell
+    requires { ⌜ (row < 74) × (column < 5) × (length (now codes) ≡ 370) ⌝ }
+    ensures { λ r. ⌜ r ≡ cellFrom (getD (now (codes .entry)) (row * 5 + column) 0) ⌝ }
 {
-    cell_from(CELL[row * 5 + column])
+    cell_from(codes[row * 5 + column])
 }
 
 fn corrections_at(row: usize) -> Corrections
     requires { ⌜ row < 74 ⌝ }
     ensures { λ r. ⌜ r ≡ correctionsOf (toxicAt row) ⌝ }
 {
+    let codes = &CELL;
     Corrections {
-        at30: cell_at(row, 0),
-        at35: cell_at(row, 1),
-        at40: cell_at(row, 2),
-        at45: cell_at(row, 3),
-        at50: cell_at(row, 4),
+        at30: cell_in(codes, row, 0),
+        at35: cell_in(codes, row, 1),
+        at40: cell_in(codes, row, 2),
+        at45: cell_in(codes, row, 3),
+        at50: cell_in(codes, row, 4),
     }
 }
 

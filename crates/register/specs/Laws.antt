@@ -6,7 +6,8 @@ use native.Mathlib.Nat.{zero-add}
 use mathlib.Core.Path.{_≡_, _∙_, refl, ap, ap₂, sym, subst}
 use mathlib.Core.List.{List, [], _∷_, _++_}
 use lib.ListN.{length, take, drop, length-append, length-drop}
-use lib.Seq.{sets, take-all}
+use lib.Seq.{sets, take-all, take-at}
+use Rattle.decimal.specs.Decimal.{Wrote}
 use Rattle.decimal.specs.Laws.{sets-append, written-first}
 use Rattle.meaning.specs.declared.Refusal.{Refusal}
 use Rattle.card.specs.declared.Answer.{Answer}
@@ -128,6 +129,23 @@ module _ (n : ℕ) (bytes out : List ℕ) where
 
   pub all-case : (x w : Outcome) → x ≡ surveyFrom n 0 0 bytes noLeaders → x ≡ w → w ≡ resultOf (cardsFrom n 0 0 bytes)
   all-case x w e q = sym q ∙ all-result x e
+
+-- the same by way of a buffer of one's own: what it holds of the answers, copied over the front of the lent one
+copied-answers : (n : ℕ) (bytes out own : List ℕ) (c : Cards) → cardsFrom n 0 0 bytes ≡ c → {l : Leaders} → resultOf c ≡ outcome.Accepted l → 16 * n ≤ length own → 16 * n ≤ length out → sets out 0 (take (16 * n) (fillFrom n 0 0 bytes own)) ≡ filledWith c out
+copied-answers n bytes out own (answers xs) e q h k =
+    let m : length (bytesOf xs) ≡ 16 * n = bytes-length xs ∙ ap (λ i. 16 * i) (cards-count n 0 0 bytes xs e) in
+    let f : fillFrom n 0 0 bytes own ≡ bytesOf xs ++ drop (length (bytesOf xs)) own =
+    fill-is n 0 0 bytes own xs e ∙ written-first (bytesOf xs) own (omega arith) in
+    ap (λ (b : List ℕ). sets out 0 (take (16 * n) b)) f
+    ∙ (ap (λ (b : List ℕ). sets out 0 b) (take-at (bytesOf xs) (drop (length (bytesOf xs)) own) (16 * n) m)
+    ∙ written-first (bytesOf xs) out (omega arith))
+copied-answers n bytes out own (sent-back r place) e q h k = let z : _≡_ {A = ℕ} 0 1 = cc in clash z
+
+pub all-copied : (n : ℕ) (bytes out own held : List ℕ) (x : Outcome) (l : Leaders) (next : ℕ) (after : List ℕ) → x ≡ surveyFrom n 0 0 bytes noLeaders → x ≡ outcome.Accepted l → held ≡ fillFrom n 0 0 bytes own → Wrote out after 0 next (take (16 * n) held) → 16 * n ≤ length own → 16 * n ≤ length out → after ≡ filledWith (cardsFrom n 0 0 bytes) out
+all-copied n bytes out own held x l next after e q f w h k =
+    w .bytes
+    ∙ (ap (λ (b : List ℕ). sets out 0 (take (16 * n) b)) f
+    ∙ copied-answers n bytes out own (cardsFrom n 0 0 bytes) refl (sym (all-result n bytes out x e) ∙ q) h k)
 
 -- what stands behind the header, as the code takes it
 behind : (bytes : List ℕ) → take (length bytes - 7) (drop 7 bytes) ≡ drop 7 bytes

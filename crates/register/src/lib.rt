@@ -67,8 +67,32 @@ fn fill_all(cards: &[u8], count: usize, out: &mut [u8])
     }
 }
 
-// Both walks over the cards behind the header: nothing is written where the first one refuses.
-fn answer_all(cards: &[u8], count: usize, answers: &mut [u8]) -> Outcome
+// One walk that does both: it keeps the leaders and writes the answers, into a buffer that nobody else sees.
+fn survey_and_fill(cards: &[u8], count: usize, out: &mut [u8]) -> Outcome
+    requires { ⌜ (count ≤ 2000) × (24 * count ≤ length (now cards)) × (16 * count ≤ length (now out)) ⌝ }
+    ensures { λ r. ⌜ r ≡ surveyFrom count 0 0 (now (cards .entry)) noLeaders ⌝ }
+    ensures { λ r. ⌜ now (out .exit) ≡ fillFrom count 0 0 (now (cards .entry)) (now (out .entry)) ⌝ }
+{
+    let mut leaders = farthest::no_leaders();
+    let mut last = 0u32;
+    let mut place = 0usize;
+    while place < count {
+        let at = 24 * place;
+        let end = at + 24;
+        let answered = card::answer_of(&cards[at..end], last);
+        let Answered::Is(answer) = answered else {
+            return Outcome::Refused(refusal_of(answered), place as u32);
+        };
+        encode::put_answer(out, 16 * place, answer);
+        leaders = farthest::lead(leaders, answer);
+        last = answer.number;
+        place += 1;
+    }
+    Outcome::Accepted(leaders)
+}
+
+// A short register is walked twice: nothing is written where the first walk refuses.
+fn answer_short(cards: &[u8], count: usize, answers: &mut [u8]) -> Outcome
     requires { ⌜ (count ≤ 2000) × (24 * count ≤ length (now cards)) × (16 * count ≤ length (now answers)) ⌝ }
     ensures { λ r. ⌜ r ≡ resultOf (cardsFrom count 0 0 (now (cards .entry))) ⌝ }
     ensures { λ r. ⌜ now (answers .exit) ≡ filledWith (cardsFrom count 0 0 (now (cards .entry))) (now (answers .entry)) ⌝ }
@@ -80,6 +104,38 @@ fn answer_all(cards: &[u8], count: usize, answers: &mut [u8]) -> Outcome
             Outcome::Accepted(leaders)
         }
         Outcome::Refused(refusal, place) => Outcome::Refused(refusal, place),
+    }
+}
+
+// A long one is walked once, into a buffer of its own, which is copied where no card was refused. To clear that buffer
+// costs about as much as some thirty cards.
+fn answer_long(cards: &[u8], count: usize, answers: &mut [u8]) -> Outcome
+    requires { ⌜ (count ≤ 2000) × (24 * count ≤ length (now cards)) × (16 * count ≤ length (now answers)) ⌝ }
+    ensures { λ r. ⌜ r ≡ resultOf (cardsFrom count 0 0 (now (cards .entry))) ⌝ }
+    ensures { λ r. ⌜ now (answers .exit) ≡ filledWith (cardsFrom count 0 0 (now (cards .entry))) (now (answers .entry)) ⌝ }
+{
+    let mut scratch = [0u8; 32000];
+    let outcome = survey_and_fill(cards, count, &mut scratch);
+    let end = 16 * count;
+    match outcome {
+        Outcome::Accepted(leaders) => {
+            decimal::put_text(answers, 0, &scratch[..end]);
+            Outcome::Accepted(leaders)
+        }
+        Outcome::Refused(refusal, place) => Outcome::Refused(refusal, place),
+    }
+}
+
+// Every card is checked before a byte is written.
+fn answer_all(cards: &[u8], count: usize, answers: &mut [u8]) -> Outcome
+    requires { ⌜ (count ≤ 2000) × (24 * count ≤ length (now cards)) × (16 * count ≤ length (now answers)) ⌝ }
+    ensures { λ r. ⌜ r ≡ resultOf (cardsFrom count 0 0 (now (cards .entry))) ⌝ }
+    ensures { λ r. ⌜ now (answers .exit) ≡ filledWith (cardsFrom count 0 0 (now (cards .entry))) (now (answers .entry)) ⌝ }
+{
+    if count <= 40 {
+        answer_short(cards, count, answers)
+    } else {
+        answer_long(cards, count, answers)
     }
 }
 

@@ -1,9 +1,9 @@
 use Rattle.register.specs.Laws.{all-case, all-filled, all-kept}
 use borrow.Author.Needs.{needs}
-use Rattle.register.proofs.answer_all.Statement.{statement}
-use Rattle.register.proofs.answer_all.Tie as tie
-use Rattle.register.proofs.answer_all.Reads as reads
-use Rattle.register.proofs.answer_all.Lts as lts
+use Rattle.register.proofs.answer_short.Statement.{statement}
+use Rattle.register.proofs.answer_short.Tie as tie
+use Rattle.register.proofs.answer_short.Reads as reads
+use Rattle.register.proofs.answer_short.Lts as lts
 use Rattle.register.proofs.fill_all.Reads as fill-all-reads
 use Rattle.register.proofs.survey.Reads as survey-reads
 
@@ -35,8 +35,8 @@ returns c = search (all-case, all-filled, needs)
 returns-2 : tie.Need-returns-2
 returns-2 c = search (all-case, all-kept, needs)
 
-pub answer-all-spec : {M : Type 1} → statement M
-answer-all-spec =
+pub answer-short-spec : {M : Type 1} → statement M
+answer-short-spec =
     tie.close
     (tie.spec
     survey-requires

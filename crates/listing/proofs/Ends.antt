@@ -1,0 +1,94 @@
+-- One law for each return: what was written is what is to be listed.
+-- Assumes nothing.
+use Prim.Native.Nat.{ℕ, _-_, _≤_, _<_}
+use native.Mathlib.Omega.{arith}
+use mathlib.Core.Path.{_≡_, _∙_, refl, ap, sym, subst}
+use mathlib.Core.List.{List, _++_}
+use mathlib.Core.Bool.{true, false}
+use lib.Dec.{ltb}
+use lib.ListN.{length, take, drop}
+use borrow.Author.Tests.{lt-ltb, le-ltb}
+use Rattle.meaning.specs.declared.Refusal.{Refusal}
+use Rattle.meaning.specs.Reading.{numberOf}
+use Rattle.farthest.specs.declared.Leaders.{Leaders}
+use Rattle.header.specs.declared.Header.{Header}
+use Rattle.header.specs.declared.Header.the-variants as header
+use Rattle.header.specs.Header.{headerOf}
+use Rattle.register.specs.declared.Outcome.{Outcome}
+use Rattle.register.specs.declared.Outcome.the-variants as outcome
+use Rattle.register.specs.Register.{outcomeOf}
+use Rattle.decimal.specs.Decimal.{Wrote}
+use Rattle.decimal.specs.Laws.{joined, written-first}
+use Rattle.lines.specs.Lines.{leaderLine, refusedLine, tooLong}
+use Rattle.listing.specs.declared.Listed.{Listed}
+use Rattle.listing.specs.declared.Listed.the-variants as listed
+use Rattle.listing.specs.Listing.{longest, enough, leaderLines, listedAfter, unlessLong, textOf, listingRoom, ifRoom, listedOf, keptIf, listedInto}
+use Rattle.listing.specs.Walk.{linesFrom}
+use Rattle.listing.specs.Laws.{accepted-text, accepted-header, sent-back-text}
+
+module _ {b₀ b₁ b₂ : List ℕ} {at mid end : ℕ} where
+  pub leaders-line : (l : Leaders) → Wrote b₀ b₁ at mid (leaderLine 84 (l .toxic)) → Wrote b₁ b₂ mid end (leaderLine 70 (l .flammable)) → Wrote b₀ b₂ at end (leaderLines l)
+  unfolding leaderLines
+  leaders-line l toxic flammable = joined toxic flammable
+
+  pub accepted-lines : (bytes : List ℕ) (n : ℕ) {l : Leaders} (h : Header) → h ≡ headerOf bytes enough → h ≡ header.Good n → outcomeOf bytes enough ≡ outcome.Accepted l
+      → Wrote b₀ b₁ at mid (linesFrom n 0 (take (length bytes - 7) (drop 7 bytes))) → Wrote b₁ b₂ mid end (leaderLines l) → Wrote b₀ b₂ at end (listedAfter (headerOf bytes enough) bytes)
+  accepted-lines bytes n h e q o cards leaders =
+      subst (Wrote b₀ b₂ at end) (accepted-text bytes n o (sym e ∙ q)) (joined cards leaders)
+
+pub accepted-is : (bytes : List ℕ) (x : Outcome) {l : Leaders} → x ≡ outcomeOf bytes enough → x ≡ outcome.Accepted l → outcomeOf bytes enough ≡ outcome.Accepted l
+accepted-is bytes x e q = sym e ∙ q
+
+module _ {before after : List ℕ} {at end : ℕ} (bytes : List ℕ) where
+  -- the header of an accepted register is good
+  pub never-refused : {l : Leaders} {r : Refusal} (h : Header) → h ≡ headerOf bytes enough → h ≡ header.Refused r → outcomeOf bytes enough ≡ outcome.Accepted l → Wrote before after at end (listedAfter (headerOf bytes enough) bytes)
+  never-refused h e q o = accepted-header bytes o (sym e ∙ q)
+
+  pub sent-back-line : (x : Outcome) (r : Refusal) (number place : ℕ) → x ≡ outcomeOf bytes enough → x ≡ outcome.Refused r place → number ≡ numberOf r → Wrote before after at end (refusedLine number place) → Wrote before after at end (listedAfter (headerOf bytes enough) bytes)
+  sent-back-line x r number place e q g line =
+      subst (Wrote before after at end) (ap (λ n. refusedLine n place) g ∙ sent-back-text bytes (sym e ∙ q)) line
+
+module _ (bytes out : List ℕ) where
+  pub no-room : length out < listingRoom → listed.NoRoom ≡ listedOf bytes (length out)
+  unfolding listedOf
+  no-room h = ap (λ t. ifRoom t (listed.Text (length (textOf bytes)))) (sym (lt-ltb (length out) listingRoom h))
+
+  pub kept : length out < listingRoom → out ≡ listedInto bytes out
+  unfolding listedInto
+  kept h = ap (λ t. keptIf t out (textOf bytes ++ drop (length (textOf bytes)) out)) (sym (lt-ltb (length out) listingRoom h))
+
+  long : longest < length bytes → tooLong ≡ textOf bytes
+  unfolding textOf
+  long l = ap (λ t. unlessLong t (listedAfter (headerOf bytes enough) bytes)) (sym (lt-ltb longest (length bytes) l))
+
+  short : length bytes ≤ longest → listedAfter (headerOf bytes enough) bytes ≡ textOf bytes
+  unfolding textOf
+  short l = ap (λ t. unlessLong t (listedAfter (headerOf bytes enough) bytes)) (sym (le-ltb longest (length bytes) l))
+
+  module _ (h : listingRoom ≤ length out) {after : List ℕ} (n : ℕ) where
+    -- a text that fits, written from the start
+    text-listed : Wrote out after 0 n (textOf bytes) → listed.Text n ≡ listedOf bytes (length out)
+    unfolding listedOf
+    text-listed w =
+        let z : n ≡ length (textOf bytes) = omega (arith, w .place) in
+        ap listed.Text z ∙ ap (λ t. ifRoom t (listed.Text (length (textOf bytes)))) (sym (le-ltb (length out) listingRoom h))
+
+    text-into : Wrote out after 0 n (textOf bytes) → n ≤ listingRoom → after ≡ listedInto bytes out
+    unfolding listedInto
+    text-into w r =
+        let z : length (textOf bytes) ≤ length out = omega (arith, w .place) in
+        w .bytes
+        ∙ (written-first (textOf bytes) out z
+        ∙ ap (λ t. keptIf t out (textOf bytes ++ drop (length (textOf bytes)) out)) (sym (le-ltb (length out) listingRoom h)))
+
+    pub long-listed : longest < length bytes → Wrote out after 0 n tooLong → listed.Text n ≡ listedOf bytes (length out)
+    long-listed l w = text-listed (subst (Wrote out after 0 n) (long l) w)
+
+    pub long-into : longest < length bytes → Wrote out after 0 n tooLong → n ≤ 64 → after ≡ listedInto bytes out
+    long-into l w r = text-into (subst (Wrote out after 0 n) (long l) w) (omega arith)
+
+    pub short-listed : length bytes ≤ longest → Wrote out after 0 n (listedAfter (headerOf bytes enough) bytes) → listed.Text n ≡ listedOf bytes (length out)
+    short-listed l w = text-listed (subst (Wrote out after 0 n) (short l) w)
+
+    pub short-into : length bytes ≤ longest → Wrote out after 0 n (listedAfter (headerOf bytes enough) bytes) → n ≤ listingRoom → after ≡ listedInto bytes out
+    short-into l w r = text-into (subst (Wrote out after 0 n) (short l) w) r

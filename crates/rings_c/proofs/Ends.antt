@@ -1,0 +1,38 @@
+-- One law for each equation of each way out: what the call below answers decides the result and the two words.
+-- Assumes nothing.
+use Prim.Native.Nat.{ℕ, _+_, _*_}
+use mathlib.Core.Path.{_≡_, _∙_, ap, sym}
+use Rattle.units.specs.declared.Miles.{Miles}
+use Rattle.meaning.specs.declared.Refusal.{Refusal}
+use Rattle.card.specs.declared.Class.{Class}
+use Rattle.farthest.specs.declared.Farthest.{Farthest}
+use Rattle.farthest.specs.declared.Farthest.the-variants as farthest
+use Rattle.farthest.specs.declared.Leaders.{Leaders}
+use Rattle.register.specs.declared.Outcome.{Outcome}
+use Rattle.register.specs.declared.Outcome.the-variants as outcome
+use Rattle.rings_c.specs.Words.{wordOf, refusalCode, codeOf, leaderOf, wordAfter}
+
+pub none-word : (f : Farthest) → f ≡ farthest.None → 0 ≡ wordOf f
+unfolding wordOf
+none-word f q = ap wordOf (sym q)
+
+pub card-word : (f : Farthest) (number miles : ℕ) (d : Miles) → f ≡ farthest.Card number d → miles ≡ d .0 → number * 65_536 + miles ≡ wordOf f
+unfolding wordOf
+card-word f number miles d q g = ap (λ n. number * 65_536 + n) g ∙ ap wordOf (sym q)
+
+module _ (x y : Outcome) (e : x ≡ y) where
+  pub accepted-code : (l : Leaders) → x ≡ outcome.Accepted l → 0 ≡ codeOf y
+  unfolding codeOf
+  accepted-code l q = ap codeOf (sym q ∙ e)
+
+  pub refused-code : (r : Refusal) (place n : ℕ) → x ≡ outcome.Refused r place → n ≡ refusalCode r place → n ≡ codeOf y
+  unfolding codeOf
+  refused-code r place n q g = g ∙ ap codeOf (sym q ∙ e)
+
+  pub accepted-word : (c : Class) (l : Leaders) (n before : ℕ) → x ≡ outcome.Accepted l → n ≡ wordOf (leaderOf c l) → n ≡ wordAfter c y before
+  unfolding wordAfter
+  accepted-word c l n before q g = g ∙ ap (λ o. wordAfter c o before) (sym q ∙ e)
+
+  pub refused-word : (c : Class) (r : Refusal) (place before : ℕ) → x ≡ outcome.Refused r place → before ≡ wordAfter c y before
+  unfolding wordAfter
+  refused-word c r place before q = ap (λ o. wordAfter c o before) (sym q ∙ e)

@@ -1,0 +1,57 @@
+// The register behind a C interface: one call, whose result and two farthest cards are words.
+use farthest::Farthest;
+use meaning::Refusal;
+use register::Outcome;
+ghost use mathlib.Core.Path.{_≡_};
+ghost use lib.ListN.{length};
+ghost use Rattle.card.specs.declared.Class.the-variants.{Toxic, Flammable};
+ghost use Rattle.register.specs.Register.{outcomeOf, bufferOf};
+ghost use Rattle.rings_c.specs.Words.{wordOf, refusalCode, codeOf, wordAfter};
+
+// A farthest card as a word: 0 for none, else its number above sixteen bits of hundredths of a mile.
+fn word_of(leader: Farthest) -> u64
+    ensures { λ r. ⌜ r ≡ wordOf leader ⌝ }
+{
+    match leader {
+        Farthest::None => 0,
+        Farthest::Card(number, distance) => {
+            let miles = dispersion::hundredths(distance) as u64;
+            number as u64 * 65_536 + miles
+        }
+    }
+}
+
+// A refusal as a word: its number above thirty-two bits of place.
+fn code_of(refusal: Refusal, place: u32) -> u64
+    ensures { λ r. ⌜ r ≡ refusalCode refusal place ⌝ }
+{
+    let number = meaning::number(refusal) as u64;
+    number * 4_294_967_296 + place as u64
+}
+
+// Answers a register into a lent buffer. On acceptance 0 is returned and the two words are set; on a refusal its word is
+// returned, and neither a word nor a byte changes.
+#[no_mangle]
+pub extern "C" fn rings_answer(
+    register: &[u8],
+    answers: &mut [u8],
+    toxic: &mut u64,
+    flammable: &mut u64,
+) -> u64
+    ensures { λ r. ⌜ r ≡ codeOf (outcomeOf (now (register .entry)) (length (now (answers .entry)))) ⌝ }
+    ensures { λ _. ⌜ now (answers .exit) ≡ bufferOf (now (register .entry)) (now (answers .entry)) ⌝ }
+    ensures { λ _. ⌜ now (toxic .exit) ≡ wordAfter Toxic (outcomeOf (now (register .entry)) (length (now (answers .entry)))) (now (toxic .entry)) ⌝ }
+    ensures { λ _. ⌜ now (flammable .exit) ≡ wordAfter Flammable (outcomeOf (now (register .entry)) (length (now (answers .entry)))) (now (flammable .entry)) ⌝ }
+{
+    let outcome = register::fill(register, answers);
+    match outcome {
+        Outcome::Accepted(leaders) => {
+            let first = leaders.toxic;
+            let second = leaders.flammable;
+            *toxic = word_of(first);
+            *flammable = word_of(second);
+            0
+        }
+        Outcome::Refused(refusal, place) => code_of(refusal, place),
+    }
+}
