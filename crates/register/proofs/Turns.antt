@@ -2,7 +2,7 @@
 -- Assumes nothing.
 use Prim.Native.Nat.{ℕ, suc, _+_, _-_, _*_, _≤_, _<_}
 use native.Mathlib.Omega.{arith}
-use native.Mathlib.Nat.{add-sub-cancel-left, sub-zero}
+use native.Mathlib.Nat.{sub-zero}
 use native.Mathlib.Numerals.{add-one}
 use mathlib.Core.Path.{_≡_, _∙_, refl, ap, ap₂, sym, subst}
 use mathlib.Core.List.{List}
@@ -36,12 +36,12 @@ module _ (cards : List ℕ) (count : ℕ) where
   pub fill-start : (out : List ℕ) → Fill 0 0 out ≡ fillFrom count 0 0 cards out
   fill-start out = ap (λ n. fillFrom n 0 0 cards out) (sub-zero count)
 
-  module _ (place last : ℕ) (h : place < count) (x : Answered) (e : x ≡ answerOf (take (24 * place + 24 - 24 * place) (drop (24 * place) cards)) last) where
+  module _ (place last : ℕ) (h : place < count) (x : Answered) (e : x ≡ answerOf (take 24 (drop (24 * place) cards)) last) where
     left : count - place ≡ suc (count - (place + 1))
     left = omega arith
 
     card-is : answerOf (take 24 (drop (24 * place) cards)) last ≡ x
-    card-is = ap (λ n. answerOf (take n (drop (24 * place) cards)) last) (sym (add-sub-cancel-left (24 * place) 24)) ∙ sym e
+    card-is = sym e
 
     next : drop 24 (drop (24 * place) cards) ≡ drop (24 * (place + 1)) cards
     next =

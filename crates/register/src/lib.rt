@@ -4,8 +4,9 @@ use farthest::Leaders;
 use header::Header;
 use meaning::Refusal;
 ghost use mathlib.Core.Path.{_≡_};
-ghost use Prim.Native.Nat.{_*_, _≤_};
-ghost use lib.ListN.{length};
+ghost use Prim.Native.Nat.{_+_, _*_, _≤_, _<_};
+ghost use lib.ListN.{length, take, drop};
+ghost use Rattle.card.specs.Answers.{answerOf};
 ghost use Rattle.farthest.specs.Farthest.{noLeaders};
 ghost use Rattle.register.specs.Register.{answeredRefusal, cardsFrom, resultOf, filledWith, outcomeOf, bufferOf};
 ghost use Rattle.register.specs.Walks.{surveyFrom, fillFrom};
@@ -25,7 +26,17 @@ fn refusal_of(answered: Answered) -> Refusal
     }
 }
 
-// The first walk: every card is checked before a byte is written, and the leaders are kept on the way.
+// The answer of the card at a place, after the last card's number.
+fn answer_at(cards: &[u8], place: usize, last: u32) -> Answered
+    requires { ⌜ (place < 2000) × (24 * place + 24 ≤ length (now cards)) ⌝ }
+    ensures { λ r. ⌜ r ≡ answerOf (take 24 (drop (24 * place) (now (cards .entry)))) last ⌝ }
+{
+    let at = 24 * place;
+    let end = at + 24;
+    card::answer_of(&cards[at..end], last)
+}
+
+// The walk that writes nothing: every card is checked, and the leaders are kept on the way.
 fn survey(cards: &[u8], count: usize) -> Outcome
     requires { ⌜ (count ≤ 2000) × (24 * count ≤ length (now cards)) ⌝ }
     ensures { λ r. ⌜ r ≡ surveyFrom count 0 0 (now (cards .entry)) noLeaders ⌝ }
@@ -34,9 +45,7 @@ fn survey(cards: &[u8], count: usize) -> Outcome
     let mut last = 0u32;
     let mut place = 0usize;
     while place < count {
-        let at = 24 * place;
-        let end = at + 24;
-        let answered = card::answer_of(&cards[at..end], last);
+        let answered = answer_at(cards, place, last);
         let Answered::Is(answer) = answered else {
             return Outcome::Refused(refusal_of(answered), place as u32);
         };
@@ -47,27 +56,7 @@ fn survey(cards: &[u8], count: usize) -> Outcome
     Outcome::Accepted(leaders)
 }
 
-// The second walk: the answers, sixteen bytes a card. It stops at a card that has none, which the first walk rules out.
-fn fill_all(cards: &[u8], count: usize, out: &mut [u8])
-    requires { ⌜ (count ≤ 2000) × (24 * count ≤ length (now cards)) × (16 * count ≤ length (now out)) ⌝ }
-    ensures { λ _. ⌜ now (out .exit) ≡ fillFrom count 0 0 (now (cards .entry)) (now (out .entry)) ⌝ }
-{
-    let mut last = 0u32;
-    let mut place = 0usize;
-    while place < count {
-        let at = 24 * place;
-        let end = at + 24;
-        let answered = card::answer_of(&cards[at..end], last);
-        let Answered::Is(answer) = answered else {
-            return;
-        };
-        encode::put_answer(out, 16 * place, answer);
-        last = answer.number;
-        place += 1;
-    }
-}
-
-// One walk that does both: it keeps the leaders and writes the answers, into a buffer that nobody else sees.
+// The walk that writes the answers too, sixteen bytes a card. It stops at a card that has none.
 fn survey_and_fill(cards: &[u8], count: usize, out: &mut [u8]) -> Outcome
     requires { ⌜ (count ≤ 2000) × (24 * count ≤ length (now cards)) × (16 * count ≤ length (now out)) ⌝ }
     ensures { λ r. ⌜ r ≡ surveyFrom count 0 0 (now (cards .entry)) noLeaders ⌝ }
@@ -77,9 +66,7 @@ fn survey_and_fill(cards: &[u8], count: usize, out: &mut [u8]) -> Outcome
     let mut last = 0u32;
     let mut place = 0usize;
     while place < count {
-        let at = 24 * place;
-        let end = at + 24;
-        let answered = card::answer_of(&cards[at..end], last);
+        let answered = answer_at(cards, place, last);
         let Answered::Is(answer) = answered else {
             return Outcome::Refused(refusal_of(answered), place as u32);
         };
@@ -91,7 +78,7 @@ fn survey_and_fill(cards: &[u8], count: usize, out: &mut [u8]) -> Outcome
     Outcome::Accepted(leaders)
 }
 
-// A short register is walked twice: nothing is written where the first walk refuses.
+// A short register is walked twice: first to check every card, then to write.
 fn answer_short(cards: &[u8], count: usize, answers: &mut [u8]) -> Outcome
     requires { ⌜ (count ≤ 2000) × (24 * count ≤ length (now cards)) × (16 * count ≤ length (now answers)) ⌝ }
     ensures { λ r. ⌜ r ≡ resultOf (cardsFrom count 0 0 (now (cards .entry))) ⌝ }
@@ -100,15 +87,15 @@ fn answer_short(cards: &[u8], count: usize, answers: &mut [u8]) -> Outcome
     let outcome = survey(cards, count);
     match outcome {
         Outcome::Accepted(leaders) => {
-            fill_all(cards, count, answers);
+            survey_and_fill(cards, count, answers);
             Outcome::Accepted(leaders)
         }
         Outcome::Refused(refusal, place) => Outcome::Refused(refusal, place),
     }
 }
 
-// A long one is walked once, into a buffer of its own, which is copied where no card was refused. To clear that buffer
-// costs about as much as some thirty cards.
+// A long one is walked once, into a buffer that nobody else sees, which is copied where no card was refused. To clear that
+// buffer costs about as much as some ten cards.
 fn answer_long(cards: &[u8], count: usize, answers: &mut [u8]) -> Outcome
     requires { ⌜ (count ≤ 2000) × (24 * count ≤ length (now cards)) × (16 * count ≤ length (now answers)) ⌝ }
     ensures { λ r. ⌜ r ≡ resultOf (cardsFrom count 0 0 (now (cards .entry))) ⌝ }

@@ -10,9 +10,9 @@ use Rattle.register.proofs.survey.Statement.{statement}
 use Rattle.register.proofs.survey.Tie as tie
 use Rattle.register.proofs.survey.Reads as reads
 use Rattle.register.proofs.survey.Lts as lts
-use Rattle.card.proofs.answer_of.Reads as answer-of-reads
 use Rattle.farthest.proofs.lead.Reads as lead-reads
 use Rattle.farthest.proofs.no_leaders.Reads as no-leaders-reads
+use Rattle.register.proofs.answer_at.Reads as answer-at-reads
 use Rattle.register.proofs.refusal_of.Reads as refusal-of-reads
 
 abbrev Inv-loop : tie.InvT-loop
@@ -22,88 +22,68 @@ Inv-loop cards count leaders₀ last₀ place₀ leaders last place =
 abbrev μ-loop : tie.MeasureT-loop
 μ-loop cards count leaders₀ last₀ place₀ leaders last place = count - place
 
--- src/lib.rt:34:9
+-- src/lib.rt:44:9
 no-leaders-requires : tie.Need-no-leaders-requires Inv-loop μ-loop
 no-leaders-requires c κs = search needs
 
--- src/lib.rt:37:5
+-- src/lib.rt:47:5
 loop-holds : tie.Need-loop-holds Inv-loop μ-loop
 loop-holds c =
     let a = c .before .before .args in
     (omega arith, ap (Survey (now (a .cards)) (a .count) 0 0) (c .no-leaders .ensures) ∙ survey-start (now (a .cards)) (a .count) noLeaders)
 
--- src/lib.rt:38:18
-mul-at : tie.Need-mul-at Inv-loop μ-loop
-mul-at c = search needs
+-- src/lib.rt:48:13
+answer-at-requires : tie.Need-answer-at-requires Inv-loop μ-loop
+answer-at-requires c κs = search needs
 
--- src/lib.rt:39:19
-add-end : tie.Need-add-end Inv-loop μ-loop
-add-end c = search needs
-
--- src/lib.rt:40:40
-sub-answer-of : tie.Need-sub-answer-of Inv-loop μ-loop
-sub-answer-of c = search needs
-
--- src/lib.rt:40:40
-part-answer-of-start : tie.Need-part-answer-of-start Inv-loop μ-loop
-part-answer-of-start c = search needs
-
--- src/lib.rt:40:40
-part-answer-of-end : tie.Need-part-answer-of-end Inv-loop μ-loop
-part-answer-of-end c = search needs
-
--- src/lib.rt:40:13
-answer-of-requires : tie.Need-answer-of-requires Inv-loop μ-loop
-answer-of-requires c κs = search needs
-
--- src/lib.rt:41:26
+-- src/lib.rt:49:26
 enum-known-answered : tie.Need-enum-known-answered Inv-loop μ-loop
 enum-known-answered c = search needs
 
--- src/lib.rt:42:37
+-- src/lib.rt:50:37
 enum-told : tie.Need-enum-told Inv-loop μ-loop
 enum-told c = search needs
 
--- src/lib.rt:42:37
+-- src/lib.rt:50:37
 refusal-of-requires : tie.Need-refusal-of-requires Inv-loop μ-loop
 refusal-of-requires c κs = search needs
 
--- src/lib.rt:42:59
-cast-t16 : tie.Need-cast-t16 Inv-loop μ-loop
-cast-t16 c = search needs
+-- src/lib.rt:50:59
+cast-t10 : tie.Need-cast-t10 Inv-loop μ-loop
+cast-t10 c = search needs
 
--- src/lib.rt:42:13
+-- src/lib.rt:50:13
 returns : tie.Need-returns Inv-loop μ-loop
 returns c =
-    let a = c .before .before .before .before .before .before .before .before .before .args in
-    let l = c .before .before .before .before .before .before .loop in
-    survey-refused (now (a .cards)) (a .count) (l .place) (l .last) (c .before .before .before .before .before .loop-test .taken) _ (c .before .before .before .answer-of .ensures) _ (c .refusal-of .result) (l .leaders) (c .before .enum-told .given .1) (c .refusal-of .ensures)
+    let a = c .before .before .before .before .before .before .before .before .args in
+    let l = c .before .before .before .before .before .loop in
+    survey-refused (now (a .cards)) (a .count) (l .place) (l .last) (c .before .before .before .before .loop-test .taken) _ (c .before .before .before .answer-at .ensures) _ (c .refusal-of .result) (l .leaders) (c .before .enum-told .given .1) (c .refusal-of .ensures)
     ∙ l .inv .1
 
--- src/lib.rt:44:9
+-- src/lib.rt:52:9
 lead-requires : tie.Need-lead-requires Inv-loop μ-loop
 lead-requires c κs = search needs
 
--- src/lib.rt:46:9
+-- src/lib.rt:54:9
 add-place : tie.Need-add-place Inv-loop μ-loop
 add-place c = search needs
 
--- src/lib.rt:37:5
+-- src/lib.rt:47:5
 loop-less : tie.Need-loop-less Inv-loop μ-loop
 loop-less c = search needs
 
--- src/lib.rt:37:5
+-- src/lib.rt:47:5
 loop-again : tie.Need-loop-again Inv-loop μ-loop
 loop-again c =
-    let a = c .before .before .before .before .before .before .before .before .before .before .args in
-    let l = c .before .before .before .before .before .before .before .loop in
+    let a = c .before .before .before .before .before .before .before .before .before .args in
+    let l = c .before .before .before .before .before .before .loop in
     let r = c .before .before .answered .given in (
       search needs,
       ap (Survey (now (a .cards)) (a .count) (l .place + 1) (r .0 .0 .number)) (c .lead .ensures)
-          ∙ (sym (survey-turn (now (a .cards)) (a .count) (l .place) (l .last) (c .before .before .before .before .before .before .loop-test .taken) _ (c .before .before .before .before .answer-of .ensures) (r .0 .0) (l .leaders) (r .1)) ∙ l .inv .1),
+          ∙ (sym (survey-turn (now (a .cards)) (a .count) (l .place) (l .last) (c .before .before .before .before .before .loop-test .taken) _ (c .before .before .before .before .answer-at .ensures) (r .0 .0) (l .leaders) (r .1)) ∙ l .inv .1),
     )
 
--- src/lib.rt:30:1
+-- src/lib.rt:40:1
 returns-2 : tie.Need-returns-2 Inv-loop μ-loop
 returns-2 c =
     let a = c .before .before .before .before .args in
@@ -118,16 +98,11 @@ survey-spec =
     μ-loop
     no-leaders-requires
     loop-holds
-    mul-at
-    add-end
-    sub-answer-of
-    part-answer-of-start
-    part-answer-of-end
-    answer-of-requires
+    answer-at-requires
     enum-known-answered
     enum-told
     refusal-of-requires
-    cast-t16
+    cast-t10
     returns
     lead-requires
     add-place

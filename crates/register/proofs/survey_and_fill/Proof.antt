@@ -11,10 +11,10 @@ use Rattle.register.proofs.survey_and_fill.Statement.{statement}
 use Rattle.register.proofs.survey_and_fill.Tie as tie
 use Rattle.register.proofs.survey_and_fill.Reads as reads
 use Rattle.register.proofs.survey_and_fill.Lts as lts
-use Rattle.card.proofs.answer_of.Reads as answer-of-reads
 use Rattle.encode.proofs.put_answer.Reads as put-answer-reads
 use Rattle.farthest.proofs.lead.Reads as lead-reads
 use Rattle.farthest.proofs.no_leaders.Reads as no-leaders-reads
+use Rattle.register.proofs.answer_at.Reads as answer-at-reads
 use Rattle.register.proofs.refusal_of.Reads as refusal-of-reads
 
 abbrev Inv-loop : tie.InvT-loop
@@ -27,97 +27,77 @@ Inv-loop cards count out₀ leaders₀ last₀ place₀ out leaders last place =
 abbrev μ-loop : tie.MeasureT-loop
 μ-loop cards count out₀ leaders₀ last₀ place₀ out leaders last place = count - place
 
--- src/lib.rt:76:9
+-- src/lib.rt:65:9
 no-leaders-requires : tie.Need-no-leaders-requires Inv-loop μ-loop
 no-leaders-requires c κs = search needs
 
--- src/lib.rt:79:5
+-- src/lib.rt:68:5
 loop-holds : tie.Need-loop-holds Inv-loop μ-loop
 loop-holds c =
     let a = c .before .before .before .args in
     (omega arith, omega arith, ap (Survey (now (a .cards)) (a .count) 0 0) (c .no-leaders .ensures) ∙ survey-start (now (a .cards)) (a .count) noLeaders, fill-start (now (a .cards)) (a .count) (now (a .out)))
 
--- src/lib.rt:80:18
-mul-at : tie.Need-mul-at Inv-loop μ-loop
-mul-at c = search needs
+-- src/lib.rt:69:13
+answer-at-requires : tie.Need-answer-at-requires Inv-loop μ-loop
+answer-at-requires c κs = search needs
 
--- src/lib.rt:81:19
-add-end : tie.Need-add-end Inv-loop μ-loop
-add-end c = search needs
-
--- src/lib.rt:82:40
-sub-answer-of : tie.Need-sub-answer-of Inv-loop μ-loop
-sub-answer-of c = search needs
-
--- src/lib.rt:82:40
-part-answer-of-start : tie.Need-part-answer-of-start Inv-loop μ-loop
-part-answer-of-start c = search needs
-
--- src/lib.rt:82:40
-part-answer-of-end : tie.Need-part-answer-of-end Inv-loop μ-loop
-part-answer-of-end c = search needs
-
--- src/lib.rt:82:13
-answer-of-requires : tie.Need-answer-of-requires Inv-loop μ-loop
-answer-of-requires c κs = search needs
-
--- src/lib.rt:83:26
+-- src/lib.rt:70:26
 enum-known-answered : tie.Need-enum-known-answered Inv-loop μ-loop
 enum-known-answered c = search needs
 
--- src/lib.rt:84:37
+-- src/lib.rt:71:37
 enum-told : tie.Need-enum-told Inv-loop μ-loop
 enum-told c = search needs
 
--- src/lib.rt:84:37
+-- src/lib.rt:71:37
 refusal-of-requires : tie.Need-refusal-of-requires Inv-loop μ-loop
 refusal-of-requires c κs = search needs
 
--- src/lib.rt:84:59
-cast-t17 : tie.Need-cast-t17 Inv-loop μ-loop
-cast-t17 c = search needs
+-- src/lib.rt:71:59
+cast-t11 : tie.Need-cast-t11 Inv-loop μ-loop
+cast-t11 c = search needs
 
--- src/lib.rt:84:13
+-- src/lib.rt:71:13
 same-length : tie.Need-same-length Inv-loop μ-loop
 same-length c = search needs
 
--- src/lib.rt:84:13
+-- src/lib.rt:71:13
 returns : tie.Need-returns Inv-loop μ-loop
 returns c =
-    let a = c .before .before .before .before .before .before .before .before .before .before .args in
-    let l = c .before .before .before .before .before .before .loop in
-    let t = c .before .before .before .before .before .loop-test .taken in
-    let e = c .before .before .before .answer-of .ensures in
+    let a = c .before .before .before .before .before .before .before .before .before .args in
+    let l = c .before .before .before .before .before .loop in
+    let t = c .before .before .before .before .loop-test .taken in
+    let e = c .before .before .before .answer-at .ensures in
     let q = c .before .enum-told .given .1 in
     (survey-refused (now (a .cards)) (a .count) (l .place) (l .last) t _ e _ (c .refusal-of .result) (l .leaders) q (c .refusal-of .ensures) ∙ l .inv .2, fill-refused (now (a .cards)) (a .count) (l .place) (l .last) t _ e _ (l .out) q ∙ l .inv .3)
 
--- src/lib.rt:86:33
+-- src/lib.rt:73:33
 mul-put-answer : tie.Need-mul-put-answer Inv-loop μ-loop
 mul-put-answer c = search needs
 
--- src/lib.rt:86:9
+-- src/lib.rt:73:9
 put-answer-requires : tie.Need-put-answer-requires Inv-loop μ-loop
 put-answer-requires c κs = search needs
 
--- src/lib.rt:87:9
+-- src/lib.rt:74:9
 lead-requires : tie.Need-lead-requires Inv-loop μ-loop
 lead-requires c κs = search needs
 
--- src/lib.rt:89:9
+-- src/lib.rt:76:9
 add-place : tie.Need-add-place Inv-loop μ-loop
 add-place c = search needs
 
--- src/lib.rt:79:5
+-- src/lib.rt:68:5
 loop-less : tie.Need-loop-less Inv-loop μ-loop
 loop-less c = search needs
 
--- src/lib.rt:79:5
+-- src/lib.rt:68:5
 loop-again : tie.Need-loop-again Inv-loop μ-loop
 loop-again c =
-    let a = c .before .before .before .before .before .before .before .before .before .before .before .before .before .before .before .args in
-    let l = c .before .before .before .before .before .before .before .before .before .before .before .loop in
-    let t = c .before .before .before .before .before .before .before .before .before .before .loop-test .taken in
-    let e = c .before .before .before .before .before .before .before .before .answer-of .ensures in
+    let a = c .before .before .before .before .before .before .before .before .before .before .before .before .before .before .args in
+    let l = c .before .before .before .before .before .before .before .before .before .before .loop in
+    let t = c .before .before .before .before .before .before .before .before .before .loop-test .taken in
+    let e = c .before .before .before .before .before .before .before .before .answer-at .ensures in
     let r = c .before .before .before .before .before .before .answered .given in
     let put = c .before .before .before .put-answer in (
       omega (arith, t),
@@ -128,11 +108,11 @@ loop-again c =
           ∙ (sym (fill-turn (now (a .cards)) (a .count) (l .place) (l .last) t _ e (r .0 .0) (l .out) (r .1)) ∙ l .inv .3),
     )
 
--- src/lib.rt:71:1
+-- src/lib.rt:60:1
 same-length-2 : tie.Need-same-length-2 Inv-loop μ-loop
 same-length-2 c = search needs
 
--- src/lib.rt:71:1
+-- src/lib.rt:60:1
 returns-2 : tie.Need-returns-2 Inv-loop μ-loop
 returns-2 c =
     let a = c .before .before .before .before .before .args in
@@ -147,16 +127,11 @@ survey-and-fill-spec =
     μ-loop
     no-leaders-requires
     loop-holds
-    mul-at
-    add-end
-    sub-answer-of
-    part-answer-of-start
-    part-answer-of-end
-    answer-of-requires
+    answer-at-requires
     enum-known-answered
     enum-told
     refusal-of-requires
-    cast-t17
+    cast-t11
     same-length
     returns
     mul-put-answer
