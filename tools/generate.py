@@ -572,13 +572,14 @@ def dense_arrays(tables):
     first = tables[DENSE_TABLES[0]]
     expect(all(table["rates"] == first["rates"] for table in tables.values()), where, "they differ in their rates")
     expect(all(table["endpoints"] == first["endpoints"] for table in tables.values()), where, "they differ in their endpoints")
+    entries = flat(
+        flat(entries_in_use([[distance_read(mark) for mark in row] for row in table["marks"]])) for table in tables.values())
     return [
         *rate_arrays("Tables 5 to 8", "ROW_UPTO", "LAST_ROW", first["rates"]),
         rt_array("Tables 5 to 8: the largest endpoint that reads each column but the last, in hundred-thousandths of mg/L.",
                  "COLUMN_UPTO", 64, endpoint_cuts(first["endpoints"])),
-        *(rt_array(f"Table {number}: the entries in use in hundredths of a mile, row by row.", f"DENSE_{number}", 16,
-                   flat(entries_in_use([[distance_read(mark) for mark in row] for row in table["marks"]])))
-          for number, table in tables.items()),
+        rt_array(f"Tables 5 to 8: the entries in use in hundredths of a mile, row by row, {DENSE_ROW_COUNT * DENSE_COLUMN_COUNT} "
+                 "a table.", "DENSE", 16, entries),
     ]
 
 

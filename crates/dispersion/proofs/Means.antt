@@ -1,21 +1,22 @@
 -- A reading of the code's arrays is the reading of the printed table: one law for each form of table, over any arrays that
 -- hold what is computed from it. At a table each of the equations is closed by computation.
 -- Assumes nothing.
-use Prim.Native.Nat.{ℕ, suc, _+_, _*_, _<_}
+use Prim.Native.Nat.{ℕ, zero, suc, _+_, _*_, _-_, _≤_, _<_}
+use native.Mathlib.Nat.{le-of-suc-le-suc, not-suc-le-zero, add-assoc}
 use native.Mathlib.Omega.{arith}
 use mathlib.Core.Path.{_≡_, refl, ap, sym, _∙_}
-use mathlib.Core.List.{List, map}
+use mathlib.Core.List.{List, [], _∷_, map}
 use mathlib.Core.Bool.{true, false}
 use lib.Dec.{ltb}
-use lib.ListN.{length, getD, length-map}
+use lib.ListN.{length, getD, length-map, List·getD-map}
 use Rattle.search.specs.Rising.{firstAtLeast}
 use Rattle.search.specs.Laws.{first-within}
 use Rattle.dispersion.specs.declared.Ground.{Ground}
 use Rattle.dispersion.specs.declared.Ground.the-variants.{Rural, Urban}
 use Rattle.dispersion.specs.Printed.{Mark, Range, Line}
-use Rattle.dispersion.specs.PrintedDense.{rates5, endpoints5}
-use Rattle.dispersion.specs.Rules.{distance, inUse, fromColumn, larger, smaller, thousandths, closestRow, lastOf, answered, byRow, holding, past, markOf, byRange}
-use Rattle.dispersion.specs.Tables.{lines, grid, readIn, rateOf, entryOf}
+use Rattle.dispersion.specs.PrintedDense.{rates5, endpoints5, table5, table6, table7, table8}
+use Rattle.dispersion.specs.Rules.{distance, inUse, fromColumn, larger, smaller, thousandths, closestRow, closestColumn, lastOf, answered, byRow, holding, past, markOf, byRange}
+use Rattle.dispersion.specs.Tables.{lines, readIn, rateOf, entryOf, tables, readingOf}
 use Rattle.dispersion.specs.Cuts.{cuts, cutsFrom, climbs, climbsFrom, columnOf, uppers, scaled}
 use Rattle.dispersion.specs.Laws.{row-by-cuts, column-by-cuts, holding-by-bounds, never-past}
 use Rattle.dispersion.proofs.Arrays.{running, in-use-at, gridInUse, grid-at, flat, flat-at, allLong}
@@ -66,22 +67,73 @@ lines-means table points last rural urban p l r u c n ground rate endpoint =
     column Rural = r
     column Urban = u
 
--- Tables 5 to 8, which have the rates and endpoints of Table 5: the entries in use row by row
-pub dense-means : (table : List (List Mark)) (array : List ℕ) (last : ℕ) → array ≡ flat (gridInUse table) → last ≡ lastOf (thousandths rates5)
-    → allLong 16 (gridInUse table) ≡ true → length (gridInUse table) ≡ 27 → length table ≡ 27
-    → (ground : Ground) (rate endpoint place : ℕ)
-    → place ≡ 16 * firstAtLeast rate (cuts larger (thousandths rates5)) + firstAtLeast endpoint (cuts smaller endpoints5)
-    → answered (ltb last rate) (getD array place 0) ≡ readIn (grid rates5 endpoints5 table) ground rate endpoint
-unfolding byRow readIn cuts cutsFrom climbs climbsFrom thousandths larger smaller rates5 endpoints5
-dense-means table array last a l wide tall rows ground rate endpoint place p =
-    let points : List ℕ = cuts larger (thousandths rates5) in
-    let sides : List ℕ = cuts smaller endpoints5 in
-    let row : ℕ = firstAtLeast rate points in
-    let column : ℕ = firstAtLeast endpoint sides in
-    let hr : row < 27 = omega (arith, first-within rate points) in
-    let hc : column < 16 = omega (arith, first-within endpoint sides) in
-    let here : getD array (16 * row + column) 0 ≡ inUse (fromColumn column table) row =
-    ap (λ xs. getD xs (16 * row + column) 0) a
-    ∙ flat-at 16 (gridInUse table) wide row column (omega arith) hc
-    ∙ grid-at table row column (omega arith) in
-    rw (row-by-cuts rate rates5 refl, column-by-cuts endpoint endpoints5 refl, p, here, l)
+-- Tables 5 to 8, which have the same rates and endpoints
+unfoldable pub denseTables : List (List (List Mark))
+unfolding table5 table6 table7 table8
+denseTables = table5 ∷ table6 ∷ table7 ∷ table8 ∷ []
+
+unfoldable pub denseArray : List ℕ
+denseArray = flat (map (λ table. flat (gridInUse table)) denseTables)
+
+-- how large they are, by computation
+record Shape (table : List (List Mark)) : Type 0 where
+  wide : allLong 16 (gridInUse table) ≡ true
+  tall : length (gridInUse table) ≡ 27
+  rows : length table ≡ 27
+
+shape : (k : ℕ) → k < 4 → Shape (getD denseTables k [])
+unfolding denseTables gridInUse allLong
+shape zero h = record { wide = refl; tall = refl; rows = refl }
+shape (suc zero) h = record { wide = refl; tall = refl; rows = refl }
+shape (suc (suc zero)) h = record { wide = refl; tall = refl; rows = refl }
+shape (suc (suc (suc zero))) h = record { wide = refl; tall = refl; rows = refl }
+shape (suc (suc (suc (suc k)))) h = absurd (not-suc-le-zero (le-of-suc-le-suc (le-of-suc-le-suc (le-of-suc-le-suc (le-of-suc-le-suc h)))))
+
+dense-at : (k row column : ℕ) → k < 4 → row < 27 → column < 16
+    → getD denseArray (432 * k + 16 * row + column) 0 ≡ inUse (fromColumn column (getD denseTables k [])) row
+unfolding denseArray denseTables allLong gridInUse flat
+dense-at k row column hk hr hc =
+    let grids : List (List ℕ) = map (λ table. flat (gridInUse table)) denseTables in
+    let s : Shape (getD denseTables k []) = shape k hk in
+    rw (add-assoc (432 * k) (16 * row) column)
+    (flat-at 432 grids refl k (16 * row + column) hk (omega arith)
+    ∙ ap (λ xs. getD xs (16 * row + column) 0) (List·getD-map (λ table. flat (gridInUse table)) denseTables k [])
+    ∙ flat-at 16 (gridInUse (getD denseTables k [])) (s .wide) row column (omega (arith, s .tall)) hc
+    ∙ grid-at (getD denseTables k []) row column (omega (arith, s .rows)))
+
+-- Table 5 + k is read by the rows and columns of Table 5
+dense-table : (k : ℕ) → k < 4 → (ground : Ground) (rate endpoint : ℕ)
+    → byRow rates5 (fromColumn (closestColumn endpoint endpoints5) (getD denseTables k [])) rate ≡ readingOf (5 + k) ground rate endpoint
+unfolding readingOf readIn tables denseTables
+dense-table zero h ground rate endpoint = refl
+dense-table (suc zero) h ground rate endpoint = refl
+dense-table (suc (suc zero)) h ground rate endpoint = refl
+dense-table (suc (suc (suc zero))) h ground rate endpoint = refl
+dense-table (suc (suc (suc (suc k)))) h ground rate endpoint =
+    absurd (not-suc-le-zero (le-of-suc-le-suc (le-of-suc-le-suc (le-of-suc-le-suc (le-of-suc-le-suc h)))))
+
+pub dense-means : (array rows columns : List ℕ) (last : ℕ) → array ≡ denseArray → rows ≡ cuts larger (thousandths rates5)
+    → columns ≡ cuts smaller endpoints5 → last ≡ lastOf (thousandths rates5)
+    → (table row column rate endpoint : ℕ) → 4 < table → table ≤ 8 → row ≡ firstAtLeast rate rows → column ≡ firstAtLeast endpoint columns
+    → (ground : Ground) → answered (ltb last rate) (getD array (432 * (table - 5) + 16 * row + column) 0) ≡ readingOf table ground rate endpoint
+unfolding byRow cuts cutsFrom climbs climbsFrom thousandths larger smaller rates5 endpoints5
+dense-means array rows columns last a p q l table row column rate endpoint low high r c ground =
+    let k : ℕ = table - 5 in
+    let cells : List (List Mark) = getD denseTables k [] in
+    let hk : k < 4 = omega arith in
+    let hr : row < 27 = omega (arith, first-within rate rows, ap length p) in
+    let hc : column < 16 = omega (arith, first-within endpoint columns, ap length q) in
+    let t : 5 + k ≡ table = omega arith in
+    let row-is : row ≡ closestRow rate rates5 =
+    r ∙ ap (λ xs. firstAtLeast rate xs) p ∙ sym (row-by-cuts rate rates5 refl) in
+    let column-is : column ≡ closestColumn endpoint endpoints5 =
+    c ∙ ap (λ xs. firstAtLeast endpoint xs) q ∙ sym (column-by-cuts endpoint endpoints5 refl) in
+    let here : getD array (432 * k + 16 * row + column) 0 ≡ inUse (fromColumn (closestColumn endpoint endpoints5) cells) (closestRow rate rates5) =
+    ap (λ xs. getD xs (432 * k + 16 * row + column) 0) a
+    ∙ dense-at k row column hk hr hc
+    ∙ ap (λ j. inUse (fromColumn j cells) row) column-is
+    ∙ ap (λ i. inUse (fromColumn (closestColumn endpoint endpoints5) cells) i) row-is in
+    ap (λ d. answered (ltb last rate) d) here
+    ∙ ap (λ n. answered (ltb n rate) (inUse (fromColumn (closestColumn endpoint endpoints5) cells) (closestRow rate rates5))) l
+    ∙ dense-table k hk ground rate endpoint
+    ∙ ap (λ n. readingOf n ground rate endpoint) t

@@ -8,20 +8,16 @@ ghost use Prim.Native.Nat.{ℕ, suc, _+_, _*_, _/_, _<_, _≤_};
 ghost use lib.Dec.{ltb};
 ghost use lib.ListN.{length, getD};
 ghost use Rattle.search.specs.Rising.{firstAtLeast, rises};
-ghost use Rattle.dispersion.specs.PrintedDense.{rates5, endpoints5};
-ghost use Rattle.dispersion.specs.Rules.{answered, larger, smaller, thousandths};
+ghost use Rattle.dispersion.specs.Rules.{answered};
 ghost use Rattle.dispersion.specs.Tables.{readingOf};
-ghost use Rattle.dispersion.specs.Cuts.{cuts, columnOf, scaled};
+ghost use Rattle.dispersion.specs.Cuts.{columnOf, scaled};
 ghost use Rattle.dispersion.specs.declared.Ground.{Ground};
 use tables::BOUND_1;
 use tables::BOUND_2;
 use tables::BOUND_3;
 use tables::BOUND_4;
 use tables::COLUMN_UPTO;
-use tables::DENSE_5;
-use tables::DENSE_6;
-use tables::DENSE_7;
-use tables::DENSE_8;
+use tables::DENSE;
 use tables::LAST_9;
 use tables::LAST_10;
 use tables::LAST_11;
@@ -51,8 +47,10 @@ use units::Reading;
 // 25 miles, in hundredths.
 const MILE_LIMIT: u16 = 2500;
 
-// A row of a dense table has 16 entries.
+// A dense table has 27 rows of 16 entries.
 const COLUMNS: usize = 16;
+
+const ENTRIES: usize = 27 * COLUMNS;
 
 // The surroundings of a card.
 pub enum Ground {
@@ -169,29 +167,16 @@ fn neutral_urban(table: u8, rate: u64, endpoint: u32) -> Reading
     by_range(&BOUND_4, &RANGE_4, rate, endpoint)
 }
 
-// Where the array of a dense table has the entry that is read: all of them have the rows and columns of Table 5.
-fn dense_at(rate: u64, endpoint: u32) -> usize
-    ensures { λ r. ⌜ (r ≡ 16 * firstAtLeast rate (cuts larger (thousandths rates5)) + firstAtLeast endpoint (cuts smaller endpoints5)) × (r < 432) ⌝ }
-{
-    let place = settle(&ROW_UPTO, &COLUMN_UPTO, rate, endpoint as u64);
-    let row = place.row;
-    let column = place.column;
-    COLUMNS * row + column
-}
-
-// Tables 5 to 8, each for one ground, whichever the card's is. An array is stored anew where it is read, so each table has its
-// own; one that is borrowed would be stored at every call, whichever the table.
+// Tables 5 to 8, each for one ground, whichever the card's is. They have the same rows and columns.
 fn dense(table: u8, rate: u64, endpoint: u32) -> Reading
     requires { ⌜ (4 < table) × (table ≤ 8) ⌝ }
     ensures { λ r. ⌜ ((ground : Ground) → r ≡ readingOf table ground rate endpoint) ⌝ }
 {
-    let at = dense_at(rate, endpoint);
-    match table {
-        5 => answer(LAST_ROW, rate, DENSE_5[at]),
-        6 => answer(LAST_ROW, rate, DENSE_6[at]),
-        7 => answer(LAST_ROW, rate, DENSE_7[at]),
-        _ => answer(LAST_ROW, rate, DENSE_8[at]),
-    }
+    let place = settle(&ROW_UPTO, &COLUMN_UPTO, rate, endpoint as u64);
+    let row = place.row;
+    let column = place.column;
+    let first = ENTRIES * (table as usize - 5);
+    answer(LAST_ROW, rate, DENSE[first + COLUMNS * row + column])
 }
 
 // Tables 9 and 10, for ammonia, at whichever endpoint.
