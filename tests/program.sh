@@ -6,7 +6,7 @@ rings=target/bin/rings
 
 for source in examples/*.txt; do
     name=${source%.txt}
-    python3 tools/register.py "$source" | cmp - "$name.register"
+    python3 tools/register.py "$source" "$name.register" --check
     "$rings" <"$name.register" | diff - "$name.listing"
 done
 

@@ -1,10 +1,10 @@
 -- The walk of the code comes to the lines of the cards, and the outcome of a register to its text.
 -- Assumes nothing.
-use Prim.Native.Nat.{ℕ, zero, suc, _-_}
+use Prim.Native.Nat.{ℕ, zero, suc, _-_, _≤_}
 use native.Mathlib.Omega.{arith}
-use mathlib.Core.Path.{_≡_, _∙_, refl, ap, ap₂, sym}
+use mathlib.Core.Path.{_≡_, _∙_, refl, ap, ap₂, sym, subst}
 use mathlib.Core.List.{List, [], _∷_, _++_}
-use lib.ListN.{length, take, drop, length-drop}
+use lib.ListN.{length, take, drop, length-take, length-drop}
 use lib.Seq.{take-all}
 use Rattle.meaning.specs.declared.Refusal.{Refusal}
 use Rattle.meaning.specs.Reading.{numberOf}
@@ -20,7 +20,9 @@ use Rattle.register.specs.declared.Outcome.the-variants as outcome
 use Rattle.register.specs.Register.{Cards, answers, sent-back, then, cardsFrom, cardsOf, resultOf, afterHeader, outcomeOf}
 use Rattle.register.specs.Laws.{joined-is}
 use Rattle.lines.specs.Lines.{cardLine, refusedLine}
-use Rattle.listing.specs.Listing.{enough, cardLines, leaderLines, listingOf, listedAfter}
+use Rattle.listing.specs.declared.Listed.{Listed}
+use Rattle.listing.specs.declared.Listed.the-variants as listed
+use Rattle.listing.specs.Listing.{enough, cardLines, leaderLines, listingOf, listedAfter, Within}
 use Rattle.listing.specs.Walk.{lined, linesFrom}
 
 clash : {A : Type 0} → _≡_ {A = ℕ} 0 1 → A
@@ -74,3 +76,11 @@ module _ (bytes : List ℕ) where
       go : (h : Header) → afterHeader h bytes ≡ outcome.Refused r place → refusedLine (numberOf r) place ≡ listedAfter h bytes
       go (header.Good n) p = refused-text (cardsOf n bytes) p
       go (header.Refused s) p = cc
+
+-- ---- what a caller shows who prints the text: it is a part of the buffer, from its start
+
+pub text-part : (room n : ℕ) {x : Listed} → x ≡ listed.Text n → Within room x → n ≤ room
+text-part room n e w = subst (Within room) e w
+
+pub part-length : (n : ℕ) (bytes : List ℕ) → n ≤ length bytes → n ≡ length (take n bytes)
+part-length n bytes h = omega (arith, length-take n bytes)

@@ -86,12 +86,10 @@ fn put_listing(register: &[u8], out: &mut [u8]) -> usize
     let outcome = register::outcome_of(register, ENOUGH);
     match outcome {
         Outcome::Accepted(leaders) => put_accepted(register, out, leaders),
-        Outcome::Refused(refusal, place) => lines::put_refused(
-            out,
-            0,
-            meaning::number(refusal),
-            place,
-        ),
+        Outcome::Refused(refusal, place) => {
+            let number = meaning::number(refusal);
+            lines::put_refused(out, 0, number, place)
+        }
     }
 }
 

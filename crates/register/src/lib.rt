@@ -95,7 +95,7 @@ fn answer_short(cards: &[u8], count: usize, answers: &mut [u8]) -> Outcome
 }
 
 // A long one is walked once, into a buffer that nobody else sees, which is copied where no card was refused. To clear that
-// buffer costs about as much as some ten cards.
+// buffer costs about as much as four cards.
 fn answer_long(cards: &[u8], count: usize, answers: &mut [u8]) -> Outcome
     requires { ⌜ (count ≤ 2000) × (24 * count ≤ length (now cards)) × (16 * count ≤ length (now answers)) ⌝ }
     ensures { λ r. ⌜ r ≡ resultOf (cardsFrom count 0 0 (now (cards .entry))) ⌝ }
@@ -119,7 +119,7 @@ fn answer_all(cards: &[u8], count: usize, answers: &mut [u8]) -> Outcome
     ensures { λ r. ⌜ r ≡ resultOf (cardsFrom count 0 0 (now (cards .entry))) ⌝ }
     ensures { λ r. ⌜ now (answers .exit) ≡ filledWith (cardsFrom count 0 0 (now (cards .entry))) (now (answers .entry)) ⌝ }
 {
-    if count <= 40 {
+    if count <= 4 {
         answer_short(cards, count, answers)
     } else {
         answer_long(cards, count, answers)

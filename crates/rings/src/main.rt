@@ -3,6 +3,7 @@ use libc::STDERR_FILENO;
 use libc::STDIN_FILENO;
 use libc::STDOUT_FILENO;
 use listing::Listed;
+ghost use mathlib.Core.Path.{_≡_};
 ghost use lib.ListN.{length};
 ghost use Rattle.rings.specs.Input.{Within};
 
@@ -48,10 +49,22 @@ fn run(input: &mut [u8], text: &mut [u8]) {
     }
 }
 
-// The longest register that can be accepted has 48,007 bytes, so one byte more tells that an input is too long. The text
-// has room for every listing.
+// The longest register that can be accepted has 48,007 bytes, so one byte more tells that an input is too long.
+fn input_buffer() -> [u8; 48_008]
+    ensures { λ r. ⌜ 48_008 ≡ length r ⌝ }
+{
+    [0; 48_008]
+}
+
+// Room for every listing.
+fn text_buffer() -> [u8; 256_256]
+    ensures { λ r. ⌜ 256_256 ≡ length r ⌝ }
+{
+    [0; 256_256]
+}
+
 fn main() {
-    let mut input = [0u8; 48_008];
-    let mut text = [0u8; 256_256];
+    let mut input = input_buffer();
+    let mut text = text_buffer();
     run(&mut input, &mut text);
 }
