@@ -21,7 +21,8 @@ PY
 # the longest input that is looked at, and one byte more
 head -c 48007 /dev/zero | "$rings" | diff - <(echo "refused 1 at 0")
 head -c 48008 /dev/zero | "$rings" | diff - <(echo "too long")
-head -c 1000000 /dev/zero | "$rings" | diff - <(echo "too long")
+head -c 1000000 /dev/zero >target/long-input
+"$rings" <target/long-input | diff - <(echo "too long")
 "$rings" </dev/null | diff - <(echo "refused 1 at 0")
 
 # errors are said on standard error and nothing is listed
