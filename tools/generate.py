@@ -153,20 +153,23 @@ def plume(text, where):
 # ---- The exhibits ----
 
 
+def read_substance(cells, table, where):
+    """What both exhibits print of a substance; `table` names the column that says neutral or dense."""
+    expect_no_blank(cells, where)
+    return {
+        "cas": cas_number(cells["cas"], where),
+        "name": cells["name"],
+        "endpoint": factor(cells["endpoint"], ENDPOINT_DECIMALS, 2**32 - 1, where),
+        "lfb": factor(cells["lfb"], LIQUID_FACTOR_DECIMALS, LIQUID_FACTOR_LIMIT, where),
+        "df": factor(cells["df"], DENSITY_FACTOR_DECIMALS, DENSITY_FACTOR_LIMIT, where),
+        "plume": plume(cells[table], where),
+    }
+
+
 def read_gases():
     columns = ["cas", "name", "molecular_weight", "endpoint", "lfb", "df", "reference_table"]
-    gases = []
-    for where, cells in read_records("b1.tsv", columns, GAS_COUNT):
-        expect_no_blank(cells, where)
-        gases.append({
-            "cas": cas_number(cells["cas"], where),
-            "name": cells["name"],
-            "endpoint": factor(cells["endpoint"], ENDPOINT_DECIMALS, 2**32 - 1, where),
-            "lfb": factor(cells["lfb"], LIQUID_FACTOR_DECIMALS, LIQUID_FACTOR_LIMIT, where),
-            "df": factor(cells["df"], DENSITY_FACTOR_DECIMALS, DENSITY_FACTOR_LIMIT, where),
-            "plume": plume(cells["reference_table"], where),
-        })
-    return gases
+    return [read_substance(cells, "reference_table", where)
+            for where, cells in read_records("b1.tsv", columns, GAS_COUNT)]
 
 
 def read_liquids():
@@ -174,16 +177,9 @@ def read_liquids():
                "worst_case_table", "alternative_case_table"]
     liquids = []
     for where, cells in read_records("b2.tsv", columns, LIQUID_COUNT):
-        expect_no_blank(cells, where)
-        liquids.append({
-            "cas": cas_number(cells["cas"], where),
-            "name": cells["name"],
-            "endpoint": factor(cells["endpoint"], ENDPOINT_DECIMALS, 2**32 - 1, where),
-            "lfa": factor(cells["lfa"], LIQUID_FACTOR_DECIMALS, LIQUID_FACTOR_LIMIT, where),
-            "lfb": factor(cells["lfb"], LIQUID_FACTOR_DECIMALS, LIQUID_FACTOR_LIMIT, where),
-            "df": factor(cells["df"], DENSITY_FACTOR_DECIMALS, DENSITY_FACTOR_LIMIT, where),
-            "plume": plume(cells["worst_case_table"], where),
-        })
+        liquid = read_substance(cells, "worst_case_table", where)
+        liquid["lfa"] = factor(cells["lfa"], LIQUID_FACTOR_DECIMALS, LIQUID_FACTOR_LIMIT, where)
+        liquids.append(liquid)
     return liquids
 
 
