@@ -15,7 +15,7 @@ use Rattle.fields.specs.Layout.{fieldsOf}
 use Rattle.meaning.specs.declared.FlammableCard.{FlammableCard}
 use Rattle.meaning.specs.declared.Meaning.{Meaning}
 use Rattle.meaning.specs.declared.Meaning.the-variants as meaning
-use Rattle.meaning.specs.declared.Refusal.the-variants as refusal
+use Rattle.refusals.specs.declared.Refusal.the-variants as refusal
 use Rattle.meaning.specs.Reading.{meaningOf}
 use Rattle.card.specs.declared.Class.the-variants as class
 use Rattle.card.specs.declared.Answer.{Answer}

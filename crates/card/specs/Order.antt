@@ -30,8 +30,8 @@ use Rattle.fields.specs.Layout.{byteAt, twoAt, fourAt, fieldsOf}
 use Rattle.meaning.specs.declared.StateByte.the-variants as stateByte
 use Rattle.meaning.specs.declared.GroundByte.the-variants as groundByte
 use Rattle.meaning.specs.declared.FlammableCard.{FlammableCard}
-use Rattle.meaning.specs.declared.Refusal.{Refusal}
-use Rattle.meaning.specs.declared.Refusal.the-variants as refusal
+use Rattle.refusals.specs.declared.Refusal.{Refusal}
+use Rattle.refusals.specs.declared.Refusal.the-variants as refusal
 use Rattle.meaning.specs.declared.Meaning.{Meaning}
 use Rattle.meaning.specs.declared.Meaning.the-variants as meaning
 use Rattle.meaning.specs.Reading.{stateOf, groundOf, heldOf, signed, badNumber, meaningIf, shaped, shapeOf, meaningOf}

@@ -1,7 +1,7 @@
 // The answer of one card, from its 24 bytes: read, planned, and read off a table.
 use meaning::FlammableCard;
 use meaning::Meaning;
-use meaning::Refusal;
+use refusals::Refusal;
 use scenario::Planned;
 use scenario::Scenario;
 use scenario::ToxicCard;

@@ -8,8 +8,8 @@ use lib.Dec.{ltb, eqb}
 use lib.ListN.{length}
 use Rattle.search.specs.Places.{either}
 use Rattle.fields.specs.Layout.{byteAt, twoAt, fourAt}
-use Rattle.meaning.specs.declared.Refusal.{Refusal}
-use Rattle.meaning.specs.declared.Refusal.the-variants as refusal
+use Rattle.refusals.specs.declared.Refusal.{Refusal}
+use Rattle.refusals.specs.declared.Refusal.the-variants as refusal
 use Rattle.header.specs.declared.Header.{Header}
 use Rattle.header.specs.declared.Header.the-variants as header
 

@@ -1,5 +1,5 @@
 // The header of a register: document 01's checks 1 to 4.
-use meaning::Refusal;
+use refusals::Refusal;
 ghost use mathlib.Core.Path.{_≡_};
 ghost use Rattle.header.specs.Header.{badLength, badVersion, badCount, badBuffer, headerOf, headerRefusal, HeaderFits};
 

@@ -6,8 +6,8 @@ use mathlib.Core.Path.{_≡_, _∙_, refl, ap, ap₂, sym, subst}
 use mathlib.Core.List.{List, [], _∷_, _++_}
 use lib.ListN.{length, take, drop, length-take, length-drop}
 use lib.Seq.{take-all}
-use Rattle.meaning.specs.declared.Refusal.{Refusal}
-use Rattle.meaning.specs.Reading.{numberOf}
+use Rattle.refusals.specs.declared.Refusal.{Refusal}
+use Rattle.refusals.specs.Numbers.{numberOf}
 use Rattle.card.specs.declared.Answer.{Answer}
 use Rattle.card.specs.declared.Answered.{Answered}
 use Rattle.card.specs.declared.Answered.the-variants as answered

@@ -5,7 +5,7 @@ use mathlib.Core.List.{List, [], _∷_, _++_}
 use mathlib.Core.Bool.{Bool, true, false}
 use lib.Dec.{ltb}
 use lib.ListN.{length, drop}
-use Rattle.meaning.specs.Reading.{numberOf}
+use Rattle.refusals.specs.Numbers.{numberOf}
 use Rattle.card.specs.declared.Answer.{Answer}
 use Rattle.farthest.specs.declared.Leaders.{Leaders}
 use Rattle.farthest.specs.Farthest.{leadersOf}

@@ -87,7 +87,7 @@ fn put_listing(register: &[u8], out: &mut [u8]) -> usize
     match outcome {
         Outcome::Accepted(leaders) => put_accepted(register, out, leaders),
         Outcome::Refused(refusal, place) => {
-            let number = meaning::number(refusal);
+            let number = refusals::number(refusal);
             lines::put_refused(out, 0, number, place)
         }
     }

@@ -31,8 +31,8 @@ use Rattle.scenario.specs.declared.State.the-variants.{Gas, Pressurized, Refrig
 use Rattle.scenario.specs.Plan.{Limits}
 use Rattle.blast.specs.Blast.{isFlammable}
 use Rattle.fields.specs.declared.Fields.{Fields}
-use Rattle.meaning.specs.declared.Refusal.{Refusal}
-use Rattle.meaning.specs.declared.Refusal.the-variants as refusal
+use Rattle.refusals.specs.declared.Refusal.{Refusal}
+use Rattle.refusals.specs.declared.Refusal.the-variants as refusal
 use Rattle.meaning.specs.declared.StateByte.{StateByte}
 use Rattle.meaning.specs.declared.StateByte.the-variants as stateByte
 use Rattle.meaning.specs.declared.GroundByte.{GroundByte}

@@ -19,8 +19,8 @@ use Rattle.scenario.specs.declared.State.{State}
 use Rattle.scenario.specs.declared.ToxicCard.{ToxicCard}
 use Rattle.blast.specs.Blast.{isFlammable}
 use Rattle.fields.specs.declared.Fields.{Fields}
-use Rattle.meaning.specs.declared.Refusal.{Refusal}
-use Rattle.meaning.specs.declared.Refusal.the-variants as refusal
+use Rattle.refusals.specs.declared.Refusal.{Refusal}
+use Rattle.refusals.specs.declared.Refusal.the-variants as refusal
 use Rattle.meaning.specs.declared.StateByte.{StateByte}
 use Rattle.meaning.specs.declared.StateByte.the-variants as stateByte
 use Rattle.meaning.specs.declared.GroundByte.{GroundByte}

@@ -17,8 +17,8 @@ use Rattle.scenario.specs.declared.State.{State}
 use Rattle.scenario.specs.declared.State.the-variants.{Gas, Pressurized, Refrigerated, Liquid}
 use Rattle.scenario.specs.Plan.{Limits}
 use Rattle.fields.specs.declared.Fields.{Fields}
-use Rattle.meaning.specs.declared.Refusal.{Refusal}
-use Rattle.meaning.specs.declared.Refusal.the-variants as refusal
+use Rattle.refusals.specs.declared.Refusal.{Refusal}
+use Rattle.refusals.specs.declared.Refusal.the-variants as refusal
 use Rattle.meaning.specs.declared.StateByte.{StateByte}
 use Rattle.meaning.specs.declared.StateByte.the-variants as stateByte
 use Rattle.meaning.specs.declared.GroundByte.{GroundByte}
@@ -32,20 +32,6 @@ use Rattle.meaning.specs.declared.Bounds.{Bounds}
 use Rattle.meaning.specs.declared.Bounds.the-variants as bounds
 use Rattle.meaning.specs.declared.Meaning.{Meaning}
 use Rattle.meaning.specs.declared.Meaning.the-variants as meaning
-
--- the numbers of "When a register is sent back"
-abbrev pub numberOf : Refusal → ℕ
-numberOf refusal.Length = 1
-numberOf refusal.Version = 2
-numberOf refusal.Count = 3
-numberOf refusal.Buffer = 4
-numberOf refusal.Number = 5
-numberOf refusal.Form = 6
-numberOf refusal.Unlisted = 7
-numberOf refusal.Quantity = 8
-numberOf refusal.Range = 9
-numberOf refusal.Mismatch = 10
-numberOf refusal.Beyond = 11
 
 -- "1: state, 1 gas, 2 gas liquefied under pressure, 3 gas liquefied by refrigeration alone, 4 liquid."
 unfoldable pub stateOf : ℕ → StateByte

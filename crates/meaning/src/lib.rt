@@ -2,6 +2,7 @@
 use dispersion::Ground;
 use exhibits::Toxic;
 use fields::Fields;
+use refusals::Refusal;
 use release::Building;
 use release::Containment;
 use release::Dike;
@@ -9,24 +10,9 @@ use scenario::State;
 use scenario::ToxicCard;
 use units::Pounds;
 ghost use mathlib.Core.Path.{_≡_};
-ghost use Rattle.meaning.specs.Reading.{numberOf, stateOf, groundOf, heldOf, heatFits, shapedState, blank, shapeOf, badNumber, badPounds, badArea, badWall, badHeat, signed, boundsOf, boundsRefusal, BoundsLimits, isListed, toxicMeaning, flammableOf, meaningOf, MeaningLimits};
+ghost use Rattle.meaning.specs.Reading.{stateOf, groundOf, heldOf, heatFits, shapedState, blank, shapeOf, badNumber, badPounds, badArea, badWall, badHeat, signed, boundsOf, boundsRefusal, BoundsLimits, isListed, toxicMeaning, flammableOf, meaningOf, MeaningLimits};
 ghost use Rattle.exhibits.specs.Exhibits.{toxicOf};
 ghost use Rattle.scenario.specs.Plan.{Limits};
-
-// Why a register is sent back: document 01's numbers 1 to 11, in its order.
-pub enum Refusal {
-    Length,
-    Version,
-    Count,
-    Buffer,
-    Number,
-    Form,
-    Unlisted,
-    Quantity,
-    Range,
-    Mismatch,
-    Beyond,
-}
 
 // Byte 1, taken apart.
 pub enum StateByte {
@@ -77,25 +63,6 @@ pub enum Meaning {
     Toxic(ToxicCard),
     Flammable(FlammableCard),
     Refused(Refusal),
-}
-
-// Document 01's number of a refusal.
-pub fn number(refusal: Refusal) -> u8
-    ensures { λ r. ⌜ r ≡ numberOf refusal ⌝ }
-{
-    match refusal {
-        Refusal::Length => 1,
-        Refusal::Version => 2,
-        Refusal::Count => 3,
-        Refusal::Buffer => 4,
-        Refusal::Number => 5,
-        Refusal::Form => 6,
-        Refusal::Unlisted => 7,
-        Refusal::Quantity => 8,
-        Refusal::Range => 9,
-        Refusal::Mismatch => 10,
-        Refusal::Beyond => 11,
-    }
 }
 
 fn state_of(byte: u8) -> StateByte

@@ -2,7 +2,7 @@
 use card::Answered;
 use farthest::Leaders;
 use header::Header;
-use meaning::Refusal;
+use refusals::Refusal;
 ghost use mathlib.Core.Path.{_≡_};
 ghost use Prim.Native.Nat.{_+_, _*_, _≤_, _<_};
 ghost use lib.ListN.{length, take, drop};

@@ -1,6 +1,6 @@
 // The register behind a C interface: one call, whose result and two farthest cards are words.
 use farthest::Farthest;
-use meaning::Refusal;
+use refusals::Refusal;
 use register::Outcome;
 ghost use mathlib.Core.Path.{_≡_};
 ghost use lib.ListN.{length};
@@ -25,7 +25,7 @@ fn word_of(leader: Farthest) -> u64
 fn code_of(refusal: Refusal, place: u32) -> u64
     ensures { λ r. ⌜ r ≡ refusalCode refusal place ⌝ }
 {
-    let number = meaning::number(refusal) as u64;
+    let number = refusals::number(refusal) as u64;
     number * 4_294_967_296 + place as u64
 }
 

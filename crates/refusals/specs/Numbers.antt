@@ -1,0 +1,18 @@
+-- The numbers of document 01's "When a register is sent back".
+-- Assumes nothing.
+use Prim.Native.Nat.{ℕ}
+use Rattle.refusals.specs.declared.Refusal.{Refusal}
+use Rattle.refusals.specs.declared.Refusal.the-variants as refusal
+
+abbrev pub numberOf : Refusal → ℕ
+numberOf refusal.Length = 1
+numberOf refusal.Version = 2
+numberOf refusal.Count = 3
+numberOf refusal.Buffer = 4
+numberOf refusal.Number = 5
+numberOf refusal.Form = 6
+numberOf refusal.Unlisted = 7
+numberOf refusal.Quantity = 8
+numberOf refusal.Range = 9
+numberOf refusal.Mismatch = 10
+numberOf refusal.Beyond = 11

@@ -1,0 +1,37 @@
+// Why a register is sent back.
+ghost use mathlib.Core.Path.{_≡_};
+ghost use Rattle.refusals.specs.Numbers.{numberOf};
+
+// Document 01's reasons 1 to 11, in its order.
+pub enum Refusal {
+    Length,
+    Version,
+    Count,
+    Buffer,
+    Number,
+    Form,
+    Unlisted,
+    Quantity,
+    Range,
+    Mismatch,
+    Beyond,
+}
+
+// Document 01's number of a refusal.
+pub fn number(refusal: Refusal) -> u8
+    ensures { λ r. ⌜ r ≡ numberOf refusal ⌝ }
+{
+    match refusal {
+        Refusal::Length => 1,
+        Refusal::Version => 2,
+        Refusal::Count => 3,
+        Refusal::Buffer => 4,
+        Refusal::Number => 5,
+        Refusal::Form => 6,
+        Refusal::Unlisted => 7,
+        Refusal::Quantity => 8,
+        Refusal::Range => 9,
+        Refusal::Mismatch => 10,
+        Refusal::Beyond => 11,
+    }
+}
