@@ -139,11 +139,12 @@ held-shape f s (held.Is c) (groundByte.Is d) e =
 held-shape f s (held.Is c) groundByte.Unlisted e = absurd (not-refused-shape e)
 held-shape f s held.Filled g e = absurd (not-refused-shape e)
 
-record Stands (f : Fields) (standing : Standing) : Type 0 where
-  kind : f .kind ≡ 1
-  state : stateOf (f .state) ≡ stateByte.Is (standing .state)
-  ground : groundOf (f .ground) ≡ groundByte.Is (standing .ground)
-  held : heldOf (f .containment) (f .area) (f .wall) ≡ held.Is (standing .containment)
+-- what a toxic card's form tells of its fields
+pub record Stands (f : Fields) (standing : Standing) : Type 0 where
+  pub kind : f .kind ≡ 1
+  pub state : stateOf (f .state) ≡ stateByte.Is (standing .state)
+  pub ground : groundOf (f .ground) ≡ groundByte.Is (standing .ground)
+  pub held : heldOf (f .containment) (f .area) (f .wall) ≡ held.Is (standing .containment)
 
 state-shape : (f : Fields) (x : StateByte) {standing : Standing} → f .kind ≡ 1 → stateOf (f .state) ≡ x → shapedState x f ≡ shape.Toxic standing → Stands f standing
 state-shape f (stateByte.Is s) k p e =
@@ -155,7 +156,7 @@ blank-shape : (b : Bool) {standing : Standing} → shapedBlank b ≡ shape.Toxic
 blank-shape true e = not-flammable-shape e
 blank-shape false e = not-refused-shape e
 
-toxic-shape : (f : Fields) {standing : Standing} → shapeOf f ≡ shape.Toxic standing → Stands f standing
+pub toxic-shape : (f : Fields) {standing : Standing} → shapeOf f ≡ shape.Toxic standing → Stands f standing
 unfolding shapeOf
 toxic-shape f {standing} e = go (eqb (f .kind) 1) (eqb (f .kind) 2) refl e
   where
@@ -180,7 +181,7 @@ state-blank : (f : Fields) (x : StateByte) → shapedState x f ≡ shape.Flammab
 state-blank f (stateByte.Is s) e = held-blank f s (heldOf (f .containment) (f .area) (f .wall)) (groundOf (f .ground)) e
 state-blank f stateByte.Unlisted e = let z : _≡_ {A = ℕ} 0 1 = cc in clash z
 
-flammable-shape : (f : Fields) → shapeOf f ≡ shape.Flammable → f .kind ≡ 2
+pub flammable-shape : (f : Fields) → shapeOf f ≡ shape.Flammable → f .kind ≡ 2
 unfolding shapeOf
 flammable-shape f e = go (eqb (f .kind) 1) (eqb (f .kind) 2) refl e
   where

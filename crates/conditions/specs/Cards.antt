@@ -1,0 +1,254 @@
+-- What a card comes to is the first of the conditions 5 to 11 that holds.
+-- Assumes nothing.
+use Prim.Native.Nat.{ℕ}
+use native.Mathlib.Omega.{arith}
+use mathlib.Core.Path.{_≡_, _∙_, refl, sym, ap, ap₂, subst}
+use mathlib.Core.Bool.{Bool, true, false, not}
+use mathlib.Core.List.{List, [], _∷_}
+use lib.Dec.{eqb, ltb}
+use lib.IntN.{ℤ}
+use borrow.Author.Tests.{eqb-true, not-false}
+use Rattle.search.specs.Rising.{both}
+use Rattle.search.specs.Laws.{both-true}
+use Rattle.search.specs.Places.{either, among}
+use Rattle.units.specs.declared.Reading.{Reading}
+use Rattle.units.specs.declared.Reading.the-variants as reading
+use Rattle.exhibits.specs.declared.Toxic.{Toxic}
+use Rattle.exhibits.specs.Exhibits.{toxicOf}
+use Rattle.dispersion.specs.declared.Ground.{Ground}
+use Rattle.dispersion.specs.Tables.{readingOf}
+use Rattle.blast.specs.Blast.{isFlammable, blastReading}
+use Rattle.scenario.specs.declared.State.{State}
+use Rattle.scenario.specs.declared.ToxicCard.{ToxicCard}
+use Rattle.scenario.specs.declared.Scenario.{Scenario}
+use Rattle.scenario.specs.declared.Planned.{Planned}
+use Rattle.scenario.specs.declared.Planned.the-variants as planned
+use Rattle.scenario.specs.Plan.{planOf}
+use Rattle.fields.specs.declared.Fields.{Fields}
+use Rattle.fields.specs.Layout.{byteAt, fieldsOf}
+use Rattle.refusals.specs.declared.Refusal.{Refusal}
+use Rattle.refusals.specs.declared.Refusal.the-variants as refusal
+use Rattle.meaning.specs.declared.StateByte.{StateByte}
+use Rattle.meaning.specs.declared.StateByte.the-variants as stateByte
+use Rattle.meaning.specs.declared.GroundByte.{GroundByte}
+use Rattle.meaning.specs.declared.GroundByte.the-variants as groundByte
+use Rattle.meaning.specs.declared.Held.{Held}
+use Rattle.meaning.specs.declared.Held.the-variants as held
+use Rattle.meaning.specs.declared.Standing.{Standing}
+use Rattle.meaning.specs.declared.Shape.{Shape}
+use Rattle.meaning.specs.declared.Shape.the-variants as shape
+use Rattle.meaning.specs.declared.Bounds.the-variants as bounds
+use Rattle.meaning.specs.declared.Meaning.the-variants as meaning
+use Rattle.meaning.specs.Reading.{stateOf, groundOf, heldOf, heatFits, shapedHeat, shapedHeld, shapedState, blank, shapedBlank, shapeOf, badNumber, badPounds, badArea, badWall, badHeat, signed, boundsIf, boundsOf, toxicBounded, isListed, meaningIf, toxicMeaning, flammableOf, shaped, meaningOf}
+use Rattle.meaning.specs.Inverse.{Stands, toxic-shape, flammable-shape}
+use Rattle.card.specs.declared.Answered.{Answered}
+use Rattle.card.specs.declared.Answered.the-variants as answered
+use Rattle.card.specs.Answers.{readToxic, plannedAnswer, readFlammable, answerFor, answerOf}
+use Rattle.conditions.specs.Conditions.{anyOf, ofGas, ofLiquid, ofTable13, badForm, badCas, badRange, aboveFifty, cellRead, withoutData, mismatched, cardFrom, beyondPlan, beyondIn, beyond, ofCard}
+use Rattle.conditions.specs.First.{Verdict, passed, refused, pick, firstOf}
+use Rattle.conditions.specs.Form.{isRefused, form-is}
+use Rattle.conditions.specs.Substances.{Seen, a-gas, a-liquid, neither, seen}
+use Rattle.conditions.specs.Mismatch.{isMismatch, mismatch-is}
+use Rattle.conditions.specs.Beyond.{isBeyond, reading-beyond, blast-beyond}
+
+clash : {A : Type 0} → _≡_ {A = ℕ} 0 1 → A
+clash z = absurd (omega arith)
+
+-- an answer, or a refusal
+abbrev pub verdictOf : Answered → Verdict
+verdictOf (answered.Is a) = passed
+verdictOf (answered.Refused r) = refused r
+
+-- 6 to 11 in turn
+abbrev inTurn : Bool → Bool → Bool → Bool → Bool → Bool → Verdict
+inTurn form cas quantity range mismatch far =
+    pick form refusal.Form
+    (pick cas refusal.Unlisted
+    (pick quantity refusal.Quantity
+    (pick range refusal.Range (pick mismatch refusal.Mismatch (pick far refusal.Beyond passed)))))
+
+-- a form is refused for its form
+heat-refused : (b : Bool) (s : Standing) {r : Refusal} → shapedHeat b s ≡ shape.Refused r → refusal.Form ≡ r
+heat-refused true s e = let z : _≡_ {A = ℕ} 0 1 = cc in clash z
+heat-refused false s e = cc
+
+held-refused : (h : Held) (f : Fields) (s : State) (g : GroundByte) {r : Refusal} → shapedHeld h f s g ≡ shape.Refused r → refusal.Form ≡ r
+held-refused (held.Is c) f s (groundByte.Is g) e = heat-refused (heatFits s (f .heat)) (record { state = s; ground = g; containment = c }) e
+held-refused (held.Is c) f s groundByte.Unlisted e = cc
+held-refused held.Filled f s g e = cc
+
+state-refused : (x : StateByte) (f : Fields) {r : Refusal} → shapedState x f ≡ shape.Refused r → refusal.Form ≡ r
+state-refused (stateByte.Is s) f e = held-refused (heldOf (f .containment) (f .area) (f .wall)) f s (groundOf (f .ground)) e
+state-refused stateByte.Unlisted f e = cc
+
+blank-refused : (b : Bool) {r : Refusal} → shapedBlank b ≡ shape.Refused r → refusal.Form ≡ r
+blank-refused true e = let z : _≡_ {A = ℕ} 0 1 = cc in clash z
+blank-refused false e = cc
+
+form-refused : (f : Fields) {r : Refusal} → shapeOf f ≡ shape.Refused r → refusal.Form ≡ r
+unfolding shapeOf
+form-refused f {r} e = go (eqb (f .kind) 1) (eqb (f .kind) 2) e
+  where
+    go : (a b : Bool) → (elim a as (λ _. Shape) [ true ↦ shapedState (stateOf (f .state)) f | false ↦ elim b as (λ _. Shape) [ true ↦ shapedBlank (blank f) | false ↦ shape.Refused refusal.Form ] ]) ≡ shape.Refused r → refusal.Form ≡ r
+    go true b q = state-refused (stateOf (f .state)) f q
+    go false true q = blank-refused (blank f) q
+    go false false q = cc
+
+-- 7 for each kind
+cas-toxic : (card : List ℕ) → byteAt card 0 ≡ 1 → badCas card ≡ not (either (ofGas card) (ofLiquid card))
+unfolding badCas
+cas-toxic card e =
+    ap (λ k. either (both (eqb k 1) (not (either (ofGas card) (ofLiquid card)))) (both (eqb k 2) (not (ofTable13 card)))) e
+    ∙ go (not (either (ofGas card) (ofLiquid card)))
+  where
+    go : (t : Bool) → either t false ≡ t
+    go true = refl
+    go false = refl
+
+cas-flammable : (card : List ℕ) → byteAt card 0 ≡ 2 → badCas card ≡ not (ofTable13 card)
+unfolding badCas
+cas-flammable card e =
+    ap (λ k. either (both (eqb k 1) (not (either (ofGas card) (ofLiquid card)))) (both (eqb k 2) (not (ofTable13 card)))) e
+
+listed-is : (card : List ℕ) → either (ofGas card) (ofLiquid card) ≡ isListed (toxicOf (fieldsOf card .cas))
+unfolding ofGas ofLiquid
+listed-is card = go (toxicOf (fieldsOf card .cas)) (seen (fieldsOf card .cas))
+  where
+    go : (x : Toxic) → Seen (fieldsOf card .cas) x → either (ofGas card) (ofLiquid card) ≡ isListed x
+    go _ (a-gas g p q) = ap₂ either p q
+    go _ (a-liquid l p q c) = ap₂ either p q
+    go _ (neither p q) = ap₂ either p q
+
+-- ---- a toxic card
+
+module _ (n : ℕ) where
+  plan-verdict : (p : Planned) (card : ToxicCard) → verdictOf (plannedAnswer p n card) ≡ pick (isMismatch p) refusal.Mismatch (pick (beyondPlan p (card .ground)) refusal.Beyond passed)
+  plan-verdict (planned.Planned s) card =
+      go (readingOf (s .table) (card .ground) (s .rate .0) (s .endpoint))
+      ∙ ap (λ t. pick t refusal.Beyond passed) (sym (reading-beyond (card .ground) (s .rate .0) (s .endpoint) (s .table)))
+    where
+      go : (x : Reading) → verdictOf (readToxic x n s) ≡ pick (isBeyond x) refusal.Beyond passed
+      go (reading.Distance d) = refl
+      go reading.Beyond = refl
+  plan-verdict planned.Mismatch card = refl
+
+  module _ (f : Fields) (standing : Standing) where
+    toxic-turn : (listed b c d e : Bool) (M : Bool) → (listed ≡ true → M ≡ isMismatch (planOf (cardFrom f standing))) → verdictOf (answerFor (meaningIf (not listed) refusal.Unlisted (toxicBounded (boundsIf b refusal.Quantity (boundsIf c refusal.Range (boundsIf d refusal.Range (boundsIf e refusal.Range (bounds.Within (signed (f .heat))))))) f (toxicOf (f .cas)) standing)) n) ≡ inTurn false (not listed) b (either c (either d (either e false))) M (beyondPlan (planOf (cardFrom f standing)) (standing .ground))
+    toxic-turn false b c d e M h = refl
+    toxic-turn true true c d e M h = refl
+    toxic-turn true false true d e M h = refl
+    toxic-turn true false false true e M h = refl
+    toxic-turn true false false false true M h = refl
+    toxic-turn true false false false false M h =
+        plan-verdict (planOf (cardFrom f standing)) (cardFrom f standing)
+        ∙ ap (λ t. pick t refusal.Mismatch (pick (beyondPlan (planOf (cardFrom f standing)) (standing .ground)) refusal.Beyond passed)) (sym (h refl))
+
+toxic-verdict : (card : List ℕ) (n : ℕ) (standing : Standing) → shapeOf (fieldsOf card) ≡ shape.Toxic standing → verdictOf (answerFor (toxicMeaning (toxicOf (fieldsOf card .cas)) (fieldsOf card) standing) n) ≡ inTurn false (badCas card) (badPounds (fieldsOf card .pounds)) (badRange card) (mismatched card) (beyondPlan (planOf (cardFrom (fieldsOf card) standing)) (standing .ground))
+unfolding toxicMeaning boundsOf badRange fieldsOf
+toxic-verdict card n standing e =
+    toxic-turn n (fieldsOf card) standing (isListed (toxicOf (fieldsOf card .cas))) (badPounds (fieldsOf card .pounds)) (badArea (fieldsOf card .containment) (fieldsOf card .area)) (badWall (fieldsOf card .wall)) (badHeat (signed (fieldsOf card .heat))) (mismatched card) (mismatch-is card standing (toxic-shape (fieldsOf card) e))
+    ∙ ap (λ t. inTurn false t (badPounds (fieldsOf card .pounds)) (badRange card) (mismatched card) (beyondPlan (planOf (cardFrom (fieldsOf card) standing)) (standing .ground)))
+    (sym (cas-toxic card (toxic-shape (fieldsOf card) e .kind) ∙ ap not (listed-is card)))
+
+-- ---- a flammable card
+
+-- what a flammable card leaves blank
+record Blank (f : Fields) : Type 0 where
+  state : f .state ≡ 0
+  containment : f .containment ≡ 0
+  wall : f .wall ≡ 0
+  heat : f .heat ≡ 0
+
+blank-shape : (f : Fields) → shapeOf f ≡ shape.Flammable → blank f ≡ true
+unfolding shapeOf
+blank-shape f e = go (eqb (f .kind) 1) (eqb (f .kind) 2) refl e
+  where
+    told : (b : Bool) → shapedBlank b ≡ shape.Flammable → b ≡ true
+    told true q = refl
+    told false q = let z : _≡_ {A = ℕ} 0 1 = cc in clash z
+
+    go : (a b : Bool) → eqb (f .kind) 1 ≡ a → (elim a as (λ _. Shape) [ true ↦ shapedState (stateOf (f .state)) f | false ↦ elim b as (λ _. Shape) [ true ↦ shapedBlank (blank f) | false ↦ shape.Refused refusal.Form ] ]) ≡ shape.Flammable → blank f ≡ true
+    go true b k q = absurd (omega (arith, eqb-true (f .kind) 1 k, flammable-shape f e))
+    go false true k q = told (blank f) q
+    go false false k q = let z : _≡_ {A = ℕ} 0 1 = cc in clash z
+
+is-blank : (f : Fields) → blank f ≡ true → Blank f
+unfolding blank
+is-blank f e =
+    let a = both-true (eqb (f .state) 0) (both (eqb (f .ground) 0) (both (eqb (f .containment) 0) (both (eqb (f .area) 0) (both (eqb (f .wall) 0) (eqb (f .heat) 0))))) e in
+    let b = both-true (eqb (f .ground) 0) (both (eqb (f .containment) 0) (both (eqb (f .area) 0) (both (eqb (f .wall) 0) (eqb (f .heat) 0)))) (a .1) in
+    let c = both-true (eqb (f .containment) 0) (both (eqb (f .area) 0) (both (eqb (f .wall) 0) (eqb (f .heat) 0))) (b .1) in
+    let d = both-true (eqb (f .area) 0) (both (eqb (f .wall) 0) (eqb (f .heat) 0)) (c .1) in
+    let g = both-true (eqb (f .wall) 0) (eqb (f .heat) 0) (d .1) in
+    record {
+      state = eqb-true (f .state) 0 (a .0);
+      containment = eqb-true (f .containment) 0 (c .0);
+      wall = eqb-true (f .wall) 0 (g .0);
+      heat = eqb-true (f .heat) 0 (g .1);
+    }
+
+-- nothing of it is out of range, and no state of its mismatches
+none-of-three : (a b c : Bool) → a ≡ false → b ≡ false → c ≡ false → anyOf (a ∷ b ∷ c ∷ []) ≡ false
+none-of-three a b c p q r = ap₂ either p (ap₂ either q (ap (λ t. either t false) r))
+
+range-blank : (card : List ℕ) → Blank (fieldsOf card) → badRange card ≡ false
+unfolding badRange fieldsOf badArea badWall badHeat signed
+range-blank card b =
+    none-of-three (badArea (byteAt card 3) (fieldsOf card .area)) (badWall (fieldsOf card .wall)) (badHeat (signed (fieldsOf card .heat)))
+    (ap (λ c. badArea c (fieldsOf card .area)) (b .containment)) (ap badWall (b .wall)) (ap (λ h. badHeat (signed h)) (b .heat))
+
+none-stands : (g l d x : Bool) → either (both g false) (either (both l false) (either (both d false) (either (both false x) false))) ≡ false
+none-stands true true true x = refl
+none-stands true true false x = refl
+none-stands true false true x = refl
+none-stands true false false x = refl
+none-stands false true true x = refl
+none-stands false true false x = refl
+none-stands false false true x = refl
+none-stands false false false x = refl
+
+mismatch-blank : (card : List ℕ) → Blank (fieldsOf card) → mismatched card ≡ false
+unfolding mismatched fieldsOf among
+mismatch-blank card b =
+    ap (λ s. either (both (ofGas card) (eqb s 4)) (either (both (ofLiquid card) (among s (1 ∷ 2 ∷ 3 ∷ []))) (either (both (eqb (byteAt card 3) 1) (among s (1 ∷ 2 ∷ []))) (either (both (eqb s 4) (both (not (aboveFifty card)) (withoutData (cellRead card)))) false)))) (b .state)
+    ∙ none-stands (ofGas card) (ofLiquid card) (eqb (byteAt card 3) 1) (both (not (aboveFifty card)) (withoutData (cellRead card)))
+
+module _ (f : Fields) (n : ℕ) where
+  flammable-turn : (listed b : Bool) (M R B : Bool) → R ≡ false → M ≡ false → (listed ≡ true → B ≡ isBeyond (blastReading (f .cas) (f .pounds))) → verdictOf (answerFor (meaningIf (not listed) refusal.Unlisted (meaningIf b refusal.Quantity (meaning.Flammable (record { cas = f .cas; quantity = record { 0 = f .pounds } })))) n) ≡ inTurn false (not listed) b R M B
+  flammable-turn false b M R B p q h = refl
+  flammable-turn true true M R B p q h = refl
+  flammable-turn true false M R B p q h =
+      go (blastReading (f .cas) (f .pounds))
+      ∙ (ap (λ t. pick t refusal.Beyond passed) (sym (h refl))
+      ∙ ap₂ (λ r m. pick r refusal.Range (pick m refusal.Mismatch (pick B refusal.Beyond passed))) (sym p) (sym q))
+    where
+      go : (x : Reading) → verdictOf (readFlammable x n) ≡ pick (isBeyond x) refusal.Beyond passed
+      go (reading.Distance d) = refl
+      go reading.Beyond = refl
+
+flammable-verdict : (card : List ℕ) (n : ℕ) → shapeOf (fieldsOf card) ≡ shape.Flammable → verdictOf (answerFor (flammableOf (fieldsOf card)) n) ≡ inTurn false (badCas card) (badPounds (fieldsOf card .pounds)) (badRange card) (mismatched card) (ltb 2_000_000 (fieldsOf card .pounds))
+unfolding flammableOf fieldsOf ofTable13 isFlammable
+flammable-verdict card n e =
+    let b = is-blank (fieldsOf card) (blank-shape (fieldsOf card) e) in
+    flammable-turn (fieldsOf card) n (isFlammable (fieldsOf card .cas)) (badPounds (fieldsOf card .pounds)) (mismatched card) (badRange card) (ltb 2_000_000 (fieldsOf card .pounds)) (range-blank card b) (mismatch-blank card b) (blast-beyond (fieldsOf card .cas) (fieldsOf card .pounds))
+    ∙ ap (λ t. inTurn false t (badPounds (fieldsOf card .pounds)) (badRange card) (mismatched card) (ltb 2_000_000 (fieldsOf card .pounds)))
+    (sym (cas-flammable card (flammable-shape (fieldsOf card) e)))
+
+-- ---- any card
+
+shape-verdict : (card : List ℕ) (n : ℕ) (s : Shape) → shapeOf (fieldsOf card) ≡ s → verdictOf (answerFor (shaped s (fieldsOf card)) n) ≡ inTurn (isRefused s) (badCas card) (badPounds (fieldsOf card .pounds)) (badRange card) (mismatched card) (beyondIn s (fieldsOf card))
+shape-verdict card n (shape.Toxic standing) e = toxic-verdict card n standing e
+shape-verdict card n shape.Flammable e = flammable-verdict card n e
+shape-verdict card n (shape.Refused r) e = ap refused (sym (form-refused (fieldsOf card) e))
+
+number-verdict : (card : List ℕ) (n : ℕ) (b : Bool) → verdictOf (answerFor (meaningIf b refusal.Number (shaped (shapeOf (fieldsOf card)) (fieldsOf card))) n) ≡ pick b refusal.Number (inTurn (badForm card) (badCas card) (badPounds (fieldsOf card .pounds)) (badRange card) (mismatched card) (beyond card))
+unfolding beyond
+number-verdict card n true = refl
+number-verdict card n false =
+    shape-verdict card n (shapeOf (fieldsOf card)) refl
+    ∙ ap (λ t. inTurn t (badCas card) (badPounds (fieldsOf card .pounds)) (badRange card) (mismatched card) (beyond card)) (sym (form-is card))
+
+-- a card is refused by the first of its conditions that holds, and answered where none does
+pub card-verdict : (card : List ℕ) (last : ℕ) → verdictOf (answerOf card last) ≡ firstOf (ofCard card last)
+unfolding answerOf meaningOf ofCard firstOf
+card-verdict card last = number-verdict card (fieldsOf card .number) (badNumber (fieldsOf card .number) last)

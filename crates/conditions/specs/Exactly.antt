@@ -1,0 +1,278 @@
+-- Demand 1, proved: a call gives exactly the first refusal whose condition holds, and accepts exactly when none does.
+-- Assumes nothing.
+use Prim.Native.Nat.{ℕ, zero, suc, _+_, _*_, _≤_, _<_}
+use native.Mathlib.Nat.{le-refl, not-suc-le-zero}
+use native.Mathlib.Omega.{arith}
+use mathlib.Core.Path.{_≡_, _∙_, refl, sym, ap, subst}
+use mathlib.Core.Bool.{Bool, true, false}
+use mathlib.Core.List.{List, [], _∷_, _++_}
+use mathlib.Core.Logic.{_⊎_, inl, inr, ⊎-elim}
+use lib.Dec.{eqb, ltb}
+use lib.ListN.{take, drop}
+use lib.Seq.{drop-drop}
+use borrow.Author.Tests.{lt-ltb, le-ltb, ne-eqb}
+use Rattle.search.specs.Laws.{lt-or-ge}
+use Rattle.fields.specs.Layout.{fieldsOf}
+use Rattle.refusals.specs.declared.Refusal.{Refusal}
+use Rattle.refusals.specs.declared.Refusal.the-variants as refusal
+use Rattle.units.specs.declared.Reading.{Reading}
+use Rattle.units.specs.declared.Reading.the-variants as reading
+use Rattle.dispersion.specs.Tables.{readingOf}
+use Rattle.blast.specs.Blast.{blastReading}
+use Rattle.scenario.specs.declared.ToxicCard.{ToxicCard}
+use Rattle.scenario.specs.declared.Scenario.{Scenario}
+use Rattle.scenario.specs.declared.Planned.{Planned}
+use Rattle.scenario.specs.declared.Planned.the-variants as planned
+use Rattle.scenario.specs.Plan.{planOf}
+use Rattle.meaning.specs.declared.Meaning.{Meaning}
+use Rattle.meaning.specs.declared.Meaning.the-variants as meaning
+use Rattle.meaning.specs.Reading.{meaningOf}
+use Rattle.card.specs.declared.Answer.{Answer}
+use Rattle.card.specs.declared.Answered.{Answered}
+use Rattle.card.specs.declared.Answered.the-variants as answered
+use Rattle.card.specs.Answers.{readToxic, plannedAnswer, readFlammable, answerFor, answerOf}
+use Rattle.farthest.specs.declared.Leaders.{Leaders}
+use Rattle.header.specs.declared.Header.{Header}
+use Rattle.header.specs.declared.Header.the-variants as header
+use Rattle.header.specs.Header.{badLength, badVersion, badCount, badBuffer, headerIf, headerOf, countOf}
+use Rattle.register.specs.declared.Outcome.{Outcome}
+use Rattle.register.specs.declared.Outcome.the-variants as outcome
+use Rattle.register.specs.Register.{Cards, answers, sent-back, joined, then, cardsFrom, cardsOf, resultOf, afterHeader, outcomeOf}
+use Rattle.ordering.specs.Claim.{cardAt}
+use Rattle.ordering.specs.Found.{header-count}
+use Rattle.conditions.specs.Conditions.{Condition, condition, only, ofRegister, ofCard, numberBefore, conditionsAt}
+use Rattle.conditions.specs.First.{Verdict, passed, refused, pick, firstOf, Leading, holdsIn, Names, none-holds, first-leads, names-one, after, first-append, first-here, first-elsewhere}
+use Rattle.conditions.specs.Cards.{verdictOf, card-verdict}
+use Rattle.conditions.specs.Claim.{Holds, First, RefusedExactly}
+
+clash : {A : Type 0} → _≡_ {A = ℕ} 0 1 → A
+clash z = absurd (omega arith)
+
+-- ---- one card: an answer has the card's number
+
+abbrev numberIn : Answered → ℕ
+numberIn (answered.Is a) = a .number
+numberIn (answered.Refused r) = 0
+
+read-number : (x : Reading) (n : ℕ) (s : Scenario) {a : Answer} → readToxic x n s ≡ answered.Is a → a .number ≡ n
+read-number (reading.Distance d) n s e = ap numberIn (sym e)
+read-number reading.Beyond n s e = let z : _≡_ {A = ℕ} 0 1 = cc in clash z
+
+blast-number : (x : Reading) (n : ℕ) {a : Answer} → readFlammable x n ≡ answered.Is a → a .number ≡ n
+blast-number (reading.Distance d) n e = ap numberIn (sym e)
+blast-number reading.Beyond n e = let z : _≡_ {A = ℕ} 0 1 = cc in clash z
+
+plan-number : (p : Planned) (n : ℕ) (card : ToxicCard) {a : Answer} → plannedAnswer p n card ≡ answered.Is a → a .number ≡ n
+plan-number (planned.Planned s) n card e = read-number (readingOf (s .table) (card .ground) (s .rate .0) (s .endpoint)) n s e
+plan-number planned.Mismatch n card e = let z : _≡_ {A = ℕ} 0 1 = cc in clash z
+
+meaning-number : (m : Meaning) (n : ℕ) {a : Answer} → answerFor m n ≡ answered.Is a → a .number ≡ n
+meaning-number (meaning.Toxic card) n e = plan-number (planOf card) n card e
+meaning-number (meaning.Flammable card) n e = blast-number (blastReading (card .cas) (card .quantity .0)) n e
+meaning-number (meaning.Refused r) n e = let z : _≡_ {A = ℕ} 0 1 = cc in clash z
+
+answer-number : (card : List ℕ) (last : ℕ) {a : Answer} → answerOf card last ≡ answered.Is a → a .number ≡ fieldsOf card .number
+unfolding answerOf
+answer-number card last e = meaning-number (meaningOf (fieldsOf card) last) (fieldsOf card .number) e
+
+-- ---- the cards in turn
+
+module _ (bytes : List ℕ) where
+  -- what the card at a place comes to
+  abbrev at : ℕ → Verdict
+  at place = firstOf (ofCard (cardAt bytes place) (numberBefore bytes place))
+
+  -- what so many cards from a place on come to
+  abbrev Walked : Cards → ℕ → ℕ → Type 0
+  Walked (answers xs) from n = (p : ℕ) → from ≤ p → p < from + n → at p ≡ passed
+  Walked (sent-back r q) from n = (from ≤ q) × (q < from + n) × (at q ≡ refused r) × ((p : ℕ) → from ≤ p → p < q → at p ≡ passed)
+
+  -- a card that passes in front of others
+  first-or-later : (from p : ℕ) → from ≤ p → (from ≡ p) ⊎ (suc from ≤ p)
+  first-or-later from p h = ⊎-elim (λ (l : from < p). inr l) (λ (l : p ≤ from). inl (let z : from ≡ p = omega arith in z)) (lt-or-ge from p)
+
+  in-front : (from : ℕ) → at from ≡ passed → (p : ℕ) → (suc from ≤ p → at p ≡ passed) → from ≤ p → at p ≡ passed
+  in-front from here p rest h = ⊎-elim (λ (e : from ≡ p). subst (λ k. at k ≡ passed) e here) rest (first-or-later from p h)
+
+  walked-on : (a : Answer) (c : Cards) (from n : ℕ) → at from ≡ passed → Walked c (suc from) n → Walked (joined a c) from (suc n)
+  walked-on a (answers xs) from n here rest = λ p l h. in-front from here p (λ m. rest p m (omega arith)) l
+  walked-on a (sent-back r q) from n here rest =
+      (omega (arith, rest .0), omega (arith, rest .1), rest .2, λ p l h. in-front from here p (λ m. rest .3 p m h) l)
+
+  next : (from : ℕ) → drop 24 (drop (7 + 24 * from) bytes) ≡ drop (7 + 24 * suc from) bytes
+  next from =
+      let z : 7 + 24 * from + 24 ≡ 7 + 24 * suc from = omega arith in
+      drop-drop 24 (7 + 24 * from) bytes ∙ ap (λ n. drop n bytes) z
+
+  verdict-at : (from last : ℕ) (x : Answered) → last ≡ numberBefore bytes from → answerOf (cardAt bytes from) last ≡ x → at from ≡ verdictOf x
+  verdict-at from last x e q =
+      sym (card-verdict (cardAt bytes from) (numberBefore bytes from))
+      ∙ (ap (λ k. verdictOf (answerOf (cardAt bytes from) k)) (sym e) ∙ ap verdictOf q)
+
+  walked : (n from last : ℕ) → last ≡ numberBefore bytes from → Walked (cardsFrom n from last (drop (7 + 24 * from) bytes)) from n
+  unfolding cardsFrom
+  walked zero from last e = λ p l h. absurd (omega arith)
+  walked (suc n) from last e =
+      go (answerOf (cardAt bytes from) last) refl (λ k q. walked n (suc from) k q)
+    where
+      go : (x : Answered) → answerOf (cardAt bytes from) last ≡ x → ((k : ℕ) → k ≡ numberBefore bytes (suc from) → Walked (cardsFrom n (suc from) k (drop (7 + 24 * suc from) bytes)) (suc from) n) → Walked (then x from (λ k. cardsFrom n (suc from) k (drop 24 (drop (7 + 24 * from) bytes)))) from (suc n)
+      go (answered.Is a) q ih =
+          walked-on a (cardsFrom n (suc from) (a .number) (drop 24 (drop (7 + 24 * from) bytes))) from n
+          (verdict-at from last (answered.Is a) e q)
+          (subst (λ (b : List ℕ). Walked (cardsFrom n (suc from) (a .number) b) (suc from) n) (sym (next from))
+          (ih (a .number) (answer-number (cardAt bytes from) last q)))
+      go (answered.Refused r) q ih =
+          (le-refl from, omega arith, verdict-at from last (answered.Refused r) e q, λ p l h. absurd (omega arith))
+
+-- ---- the whole register
+
+abbrev headerVerdict : Header → Verdict
+headerVerdict (header.Good n) = passed
+headerVerdict (header.Refused r) = refused r
+
+header-verdict : (bytes : List ℕ) (room : ℕ) → firstOf (ofRegister bytes room) ≡ headerVerdict (headerOf bytes room)
+unfolding headerOf ofRegister firstOf
+header-verdict bytes room = go (badLength bytes) (badVersion bytes) (badCount bytes) (badBuffer bytes room)
+  where
+    go : (a b c d : Bool) → pick a refusal.Length (pick b refusal.Version (pick c refusal.Count (pick d refusal.Buffer passed))) ≡ headerVerdict (headerIf a refusal.Length (headerIf b refusal.Version (headerIf c refusal.Count (headerIf d refusal.Buffer (header.Good (countOf bytes))))))
+    go true b c d = refl
+    go false true c d = refl
+    go false false true d = refl
+    go false false false true = refl
+    go false false false false = refl
+
+module _ (bytes : List ℕ) (room : ℕ) where
+  -- what the table comes to at a place
+  abbrev table : ℕ → Verdict
+  table place = firstOf (conditionsAt bytes room place)
+
+  abbrev cardLines : ℕ → List Condition
+  cardLines place = ofCard (cardAt bytes place) (numberBefore bytes place)
+
+  only-passes : (b : Bool) → firstOf (ofRegister bytes room) ≡ passed → firstOf (only b (ofRegister bytes room)) ≡ passed
+  only-passes true e = first-here (ofRegister bytes room) ∙ e
+  only-passes false e = first-elsewhere (ofRegister bytes room)
+
+  -- where 1 to 4 pass, a place comes to what its card does
+  place-lines : firstOf (ofRegister bytes room) ≡ passed → (place : ℕ) → table place ≡ firstOf (only (ltb place (countOf bytes)) (cardLines place))
+  unfolding conditionsAt
+  place-lines e place =
+      first-append (only (eqb place 0) (ofRegister bytes room)) (only (ltb place (countOf bytes)) (cardLines place))
+      ∙ ap (λ v. after v (firstOf (only (ltb place (countOf bytes)) (cardLines place)))) (only-passes (eqb place 0) e)
+
+  card-there : firstOf (ofRegister bytes room) ≡ passed → (place : ℕ) → place < countOf bytes → table place ≡ at bytes place
+  card-there e place h =
+      place-lines e place ∙ (ap (λ t. firstOf (only t (cardLines place))) (lt-ltb place (countOf bytes) h) ∙ first-here (cardLines place))
+
+  no-card : firstOf (ofRegister bytes room) ≡ passed → (place : ℕ) → countOf bytes ≤ place → table place ≡ passed
+  no-card e place h =
+      place-lines e place ∙ (ap (λ t. firstOf (only t (cardLines place))) (le-ltb place (countOf bytes) h) ∙ first-elsewhere (cardLines place))
+
+  -- 1 to 4 come before every card
+  header-first : (r : Refusal) → firstOf (ofRegister bytes room) ≡ refused r → table 0 ≡ refused r
+  unfolding conditionsAt
+  header-first r e =
+      first-append (only true (ofRegister bytes room)) (only (ltb 0 (countOf bytes)) (cardLines 0))
+      ∙ ap (λ v. after v (firstOf (only (ltb 0 (countOf bytes)) (cardLines 0)))) (first-here (ofRegister bytes room) ∙ e)
+
+  -- a place whose table refuses, and none before it, is the first
+  to-first : (r : Refusal) (place : ℕ) → table place ≡ refused r → ((p : ℕ) → p < place → table p ≡ passed) → First bytes room r place
+  to-first r place e before =
+      let l = first-leads (conditionsAt bytes room place) r e in
+      record {
+        line = l .line;
+        names = l .names;
+        holds = l .holds;
+        above = l .above;
+        earlier = λ p i h. none-holds (conditionsAt bytes room p) (before p h) i;
+      }
+
+  -- what the call answers, in terms of the table
+  abbrev Told : Outcome → Type 0
+  Told (outcome.Accepted l) = (p : ℕ) → table p ≡ passed
+  Told (outcome.Refused r place) = (table place ≡ refused r) × ((p : ℕ) → p < place → table p ≡ passed)
+
+  cards-told : (c : Cards) → firstOf (ofRegister bytes room) ≡ passed → Walked bytes c 0 (countOf bytes) → Told (resultOf c)
+  cards-told (answers xs) e w = λ p.
+      ⊎-elim
+      (λ (h : p < countOf bytes). card-there e p h ∙ w p (omega arith) (omega arith))
+      (λ (h : countOf bytes ≤ p). no-card e p h)
+      (lt-or-ge p (countOf bytes))
+  cards-told (sent-back r q) e w =
+      let h : q < countOf bytes = omega (arith, w .1) in
+      (card-there e q h ∙ w .2, λ p l. card-there e p (omega arith) ∙ w .3 p (omega arith) l)
+
+  header-told : (h : Header) → headerOf bytes room ≡ h → Told (afterHeader h bytes)
+  unfolding cardsOf
+  header-told (header.Good n) e =
+      let c : countOf bytes ≡ n = header-count bytes room n e in
+      cards-told (cardsFrom n 0 0 (drop 7 bytes)) (header-verdict bytes room ∙ ap headerVerdict e)
+      (subst (λ k. Walked bytes (cardsFrom n 0 0 (drop 7 bytes)) 0 k) (sym c) (walked bytes n 0 0 refl))
+  header-told (header.Refused r) e =
+      (header-first r (header-verdict bytes room ∙ ap headerVerdict e), λ p h. absurd (not-suc-le-zero h))
+
+  told : Told (outcomeOf bytes room)
+  unfolding outcomeOf
+  told = header-told (headerOf bytes room) refl
+
+  refused-first : (r : Refusal) (place : ℕ) → outcomeOf bytes room ≡ outcome.Refused r place → First bytes room r place
+  refused-first r place e = let t : Told (outcome.Refused r place) = subst Told e told in to-first r place (t .0) (t .1)
+
+  accepted-none : (l : Leaders) → outcomeOf bytes room ≡ outcome.Accepted l → (place line : ℕ) → Holds bytes room line place → ⊥
+  accepted-none l e place line =
+      let t : Told (outcome.Accepted l) = subst Told e told in
+      none-holds (conditionsAt bytes room place) (t place) line
+
+  -- there is one first
+  same-place : {r s : Refusal} {p q : ℕ} → First bytes room r p → First bytes room s q → p ≡ q
+  same-place {r} {s} {p} {q} x y =
+      ⊎-elim
+      (λ (h : p < q). absurd (y .earlier p (x .line) h (x .holds)))
+      (λ (h : q ≤ p).
+      ⊎-elim
+      (λ (k : q < p). absurd (x .earlier q (y .line) k (y .holds)))
+      (λ (k : p ≤ q). let z : p ≡ q = omega arith in z)
+      (lt-or-ge q p))
+      (lt-or-ge p q)
+
+  same-line : {r s : Refusal} {p : ℕ} (x : First bytes room r p) (y : First bytes room s p) → x .line ≡ y .line
+  same-line x y =
+      ⊎-elim
+      (λ (h : x .line < y .line). absurd (y .above (x .line) h (x .holds)))
+      (λ (h : y .line ≤ x .line).
+      ⊎-elim
+      (λ (k : y .line < x .line). absurd (x .above (y .line) k (y .holds)))
+      (λ (k : x .line ≤ y .line). let z : x .line ≡ y .line = omega arith in z)
+      (lt-or-ge (y .line) (x .line)))
+      (lt-or-ge (x .line) (y .line))
+
+  same-refusal : {r s : Refusal} {p : ℕ} (x : First bytes room r p) (y : First bytes room s p) → r ≡ s
+  same-refusal {r} {s} {p} x y =
+      names-one (conditionsAt bytes room p) (y .line) r s
+      (subst (λ i. Names (conditionsAt bytes room p) i r) (same-line x y) (x .names))
+      (y .names)
+
+  first-refused : (r : Refusal) (place : ℕ) → First bytes room r place → outcomeOf bytes room ≡ outcome.Refused r place
+  first-refused r place x = go (outcomeOf bytes room) refl
+    where
+      go : (o : Outcome) → outcomeOf bytes room ≡ o → outcomeOf bytes room ≡ outcome.Refused r place
+      go (outcome.Accepted l) e = absurd (accepted-none l e place (x .line) (x .holds))
+      go (outcome.Refused s q) e =
+          let y = refused-first s q e in
+          let p = same-place x y in
+          let x′ : First bytes room r q = subst (First bytes room r) p x in
+          e ∙ (ap (λ k. outcome.Refused s k) (sym p) ∙ ap (λ k. outcome.Refused k place) (sym (same-refusal x′ y)))
+
+  none-accepted : ((place line : ℕ) → Holds bytes room line place → ⊥) → (l : Leaders) × (outcomeOf bytes room ≡ outcome.Accepted l)
+  none-accepted none = go (outcomeOf bytes room) refl
+    where
+      go : (o : Outcome) → outcomeOf bytes room ≡ o → (l : Leaders) × (outcomeOf bytes room ≡ outcome.Accepted l)
+      go (outcome.Accepted l) e = (l, e)
+      go (outcome.Refused s q) e = let y = refused-first s q e in absurd (none q (y .line) (y .holds))
+
+pub refused-exactly : RefusedExactly
+refused-exactly bytes room =
+    (
+      λ r place. (refused-first bytes room r place, first-refused bytes room r place),
+      (λ a. accepted-none bytes room (a .0) (a .1), none-accepted bytes room),
+    )

@@ -1,0 +1,9 @@
+pub mod Conditions
+pub mod First
+pub mod Form
+pub mod Substances
+pub mod Mismatch
+pub mod Beyond
+pub mod Cards
+pub mod Claim
+pub mod Exactly

@@ -1,0 +1,249 @@
+-- Condition 10 is what no scenario fits: the state, the dike and the cell of Exhibit B-4 that the card reads.
+-- Assumes nothing.
+use Prim.Native.Nat.{ℕ, zero, suc, _+_, _*_, _≤_, _<_}
+use native.Mathlib.Nat.{add-zero, le-of-suc-le-suc, not-suc-le-zero}
+use native.Mathlib.Omega.{arith}
+use mathlib.Core.Path.{_≡_, _∙_, refl, sym, ap, ap₂, subst}
+use mathlib.Core.Bool.{Bool, true, false, not}
+use mathlib.Core.List.{List, [], _∷_, map}
+use mathlib.Core.Logic.{⊎-elim}
+use lib.Dec.{eqb, ltb}
+use lib.ListN.{getD}
+use lib.IntN.{ℤ, pos, negsuc}
+use lib.Signed.{ltZ}
+use borrow.Author.Tests.{eqb-true, ne-eqb, ltb-true, ltb-false, lt-ltb, le-ltb}
+use Rattle.search.specs.Rising.{both}
+use Rattle.search.specs.Laws.{both-true, lt-or-ge}
+use Rattle.search.specs.Places.{either, among}
+use Rattle.exhibits.specs.declared.Cell.{Cell}
+use Rattle.exhibits.specs.declared.Cell.the-variants.{Factor, Lfb, NoData}
+use Rattle.exhibits.specs.declared.Corrections.{Corrections}
+use Rattle.exhibits.specs.declared.Gas as gases
+use Rattle.exhibits.specs.declared.Liquid as liquids
+use Rattle.exhibits.specs.declared.Toxic.{Toxic}
+use Rattle.exhibits.specs.declared.Toxic.the-variants.{OfGas, OfLiquid, NotListed}
+use Rattle.exhibits.specs.Exhibits.{factorsOf, toxicOf}
+use Rattle.dispersion.specs.Rules.{larger, closest}
+use Rattle.release.specs.declared.Containment.{Containment}
+use Rattle.release.specs.declared.Containment.the-variants.{Open, Dike, Building}
+use Rattle.release.specs.Pool.{beyondDike}
+use Rattle.scenario.specs.declared.State.{State}
+use Rattle.scenario.specs.declared.ToxicCard.{ToxicCard}
+use Rattle.scenario.specs.declared.Scenario.{Scenario}
+use Rattle.scenario.specs.declared.Planned.{Planned}
+use Rattle.scenario.specs.declared.Planned.the-variants as planned
+use Rattle.scenario.specs.declared.Column.{Column}
+use Rattle.scenario.specs.declared.Column.the-variants.{At25, At30, At35, At40, At45, At50, Above}
+use Rattle.scenario.specs.declared.Factors.{Factors}
+use Rattle.scenario.specs.declared.Factors.the-variants.{Read, Missing}
+use Rattle.scenario.specs.Plan.{columnOf, ofCell, vaporOf, poolOf, undiked, pooled, gasPlan, factored, liquidPlan, planFor, planOf}
+use Rattle.scenario.specs.Plan as plan
+use Rattle.scenario.specs.Columns.{columns, placeIn, closestFor, columns-closest, colder}
+use Rattle.fields.specs.Layout.{byteAt, twoAt, fourAt, fieldsOf}
+use Rattle.meaning.specs.declared.StateByte.{StateByte}
+use Rattle.meaning.specs.declared.StateByte.the-variants as stateByte
+use Rattle.meaning.specs.declared.Held.{Held}
+use Rattle.meaning.specs.declared.Held.the-variants as held
+use Rattle.meaning.specs.declared.Standing.{Standing}
+use Rattle.meaning.specs.Reading.{stateOf, openOf, heldOf, isListed, signed}
+use Rattle.meaning.specs.Inverse.{Stands}
+use Rattle.conditions.specs.Conditions.{anyOf, ofGas, ofLiquid, columnRead, cellsOf, cellRead, withoutData, aboveFifty, mismatched, cardFrom}
+use Rattle.conditions.specs.Form.{no-state}
+use Rattle.conditions.specs.Substances.{Seen, a-gas, a-liquid, neither, seen}
+
+clash : {A : Type 0} → _≡_ {A = ℕ} 0 1 → A
+clash z = absurd (omega arith)
+
+-- the column that is read is the closest, at every tenth of a degree up to 50.0
+closest-at : (n t k : ℕ) → closestFor n t ≡ true → k < n → placeIn (columnOf (pos (t + k))) ≡ closest larger (t + k) columns
+unfolding closestFor
+closest-at zero t k e h = absurd (not-suc-le-zero h)
+closest-at (suc n) t zero e h =
+    let here = eqb-true (placeIn (columnOf (pos t))) (closest larger t columns) (both-true (eqb (placeIn (columnOf (pos t))) (closest larger t columns)) (closestFor n (suc t)) e .0) in
+    subst (λ m. placeIn (columnOf (pos m)) ≡ closest larger m columns) (sym (add-zero t)) here
+closest-at (suc n) t (suc k) e h =
+    let on : suc t + k ≡ t + suc k = omega arith in
+    subst (λ m. placeIn (columnOf (pos m)) ≡ closest larger m columns) on
+    (closest-at n (suc t) k (both-true (eqb (placeIn (columnOf (pos t))) (closest larger t columns)) (closestFor n (suc t)) e .1) (le-of-suc-le-suc h))
+
+column-closest : (t : ℕ) → t ≤ 500 → placeIn (columnOf (pos t)) ≡ closest larger t columns
+column-closest t h =
+    let z : 0 + t ≡ t = omega arith in
+    subst (λ m. placeIn (columnOf (pos m)) ≡ closest larger m columns) z (closest-at 501 0 t columns-closest (omega arith))
+
+-- no column is read above 50.0 °C, and one below
+not-above : (t : ℤ) → ltZ (pos 500) t ≡ false → columnOf t ≡ Above → ⊥
+unfolding columnOf
+not-above t e q = go (ltZ (pos 500) t) (ltZ t (pos 275)) (ltZ t (pos 325)) (ltZ t (pos 375)) (ltZ t (pos 425)) (ltZ t (pos 475)) e q
+  where
+    go : (a b c d f g : Bool) → a ≡ false → (elim a as (λ _. Column) [ true ↦ Above | false ↦ elim b as (λ _. Column) [ true ↦ At25 | false ↦ elim c as (λ _. Column) [ true ↦ At30 | false ↦ elim d as (λ _. Column) [ true ↦ At35 | false ↦ elim f as (λ _. Column) [ true ↦ At40 | false ↦ elim g as (λ _. Column) [ true ↦ At45 | false ↦ At50 ] ] ] ] ] ]) ≡ Above → ⊥
+    go true b c d f g u v = let z : _≡_ {A = ℕ} 0 1 = cc in clash z
+    go false true c d f g u v = let z : _≡_ {A = ℕ} 0 1 = cc in clash z
+    go false false true d f g u v = let z : _≡_ {A = ℕ} 0 1 = cc in clash z
+    go false false false true f g u v = let z : _≡_ {A = ℕ} 0 1 = cc in clash z
+    go false false false false true g u v = let z : _≡_ {A = ℕ} 0 1 = cc in clash z
+    go false false false false false true u v = let z : _≡_ {A = ℕ} 0 1 = cc in clash z
+    go false false false false false false u v = let z : _≡_ {A = ℕ} 0 1 = cc in clash z
+
+is-above : (t : ℤ) → ltZ (pos 500) t ≡ true → columnOf t ≡ Above
+unfolding columnOf
+is-above t e = rw (e, columnOf)
+
+abbrev isMissing : Factors → Bool
+isMissing (Read lf tcf) = false
+isMissing Missing = true
+
+cell-missing : (lfa lfb : ℕ) (x : Cell) → isMissing (ofCell lfa lfb x) ≡ withoutData x
+cell-missing lfa lfb (Factor n) = refl
+cell-missing lfa lfb Lfb = refl
+cell-missing lfa lfb NoData = refl
+
+-- the cells of a line, one for each column
+abbrev cellsIn : Corrections → List Cell
+cellsIn c = Factor 100 ∷ c .at30 ∷ c .at35 ∷ c .at40 ∷ c .at45 ∷ c .at50 ∷ []
+
+column-missing : (l : liquids.Liquid) (k : Column) → (k ≡ Above → ⊥) → isMissing (plan.factorsOf l k) ≡ withoutData (getD (cellsIn (l .corrections)) (placeIn k) NoData)
+column-missing l At25 n = refl
+column-missing l At30 n = cell-missing (l .lfa) (l .lfb) (l .corrections .at30)
+column-missing l At35 n = cell-missing (l .lfa) (l .lfb) (l .corrections .at35)
+column-missing l At40 n = cell-missing (l .lfa) (l .lfb) (l .corrections .at40)
+column-missing l At45 n = cell-missing (l .lfa) (l .lfb) (l .corrections .at45)
+column-missing l At50 n = cell-missing (l .lfa) (l .lfb) (l .corrections .at50)
+column-missing l Above n = absurd (n refl)
+
+-- the place of the column that is read
+place-read : (t : ℤ) → ltZ (pos 500) t ≡ false → placeIn (columnOf t) ≡ columnRead t
+place-read (pos t) e = column-closest t (ltb-false 500 t e)
+place-read (negsuc n) e = ap placeIn (colder n)
+
+-- a liquid's factors are missing exactly where the cell that is read is without data
+factors-missing : (l : liquids.Liquid) (t : ℤ) → isMissing (plan.factorsOf l (columnOf t)) ≡ both (not (ltZ (pos 500) t)) (withoutData (getD (cellsIn (l .corrections)) (columnRead t) NoData))
+factors-missing l t = go (ltZ (pos 500) t) refl
+  where
+    go : (above : Bool) → ltZ (pos 500) t ≡ above → isMissing (plan.factorsOf l (columnOf t)) ≡ both (not above) (withoutData (getD (cellsIn (l .corrections)) (columnRead t) NoData))
+    go true e = ap (λ k. isMissing (plan.factorsOf l k)) (is-above t e)
+    go false e =
+        column-missing l (columnOf t) (not-above t e)
+        ∙ ap (λ p. withoutData (getD (cellsIn (l .corrections)) p NoData)) (place-read t e)
+
+-- what no scenario fits
+abbrev pub isMismatch : Planned → Bool
+isMismatch (planned.Planned s) = false
+isMismatch planned.Mismatch = true
+
+abbrev isDike : Containment → Bool
+isDike Open = false
+isDike (Dike d) = true
+isDike (Building b) = false
+
+held-is : {a b : Containment} → held.Is a ≡ held.Is b → a ≡ b
+held-is e = cc
+
+state-is : {a b : State} → stateByte.Is a ≡ stateByte.Is b → a ≡ b
+state-is e = cc
+
+-- byte 3 is 1 exactly for a dike
+dike-byte : (b area wall : ℕ) (c : Containment) → heldOf b area wall ≡ held.Is c → eqb b 1 ≡ isDike c
+unfolding heldOf openOf
+dike-byte b area wall c e = go (eqb b 1) (eqb wall 0) (eqb b 2) (eqb b 0) (eqb area 0) e
+  where
+    go : (p q r t u : Bool) → (elim p as (λ _. Held) [ true ↦ held.Is (Dike (record { area = record { 0 = 100 * area }; wall = wall })) | false ↦ elim q as (λ _. Held) [ true ↦ elim r as (λ _. Held) [ true ↦ held.Is (Building (record { floor = record { 0 = 100 * area } })) | false ↦ elim t as (λ _. Held) [ true ↦ elim u as (λ _. Held) [ true ↦ held.Is Open | false ↦ held.Filled ] | false ↦ held.Filled ] ] | false ↦ held.Filled ] ]) ≡ held.Is c → p ≡ isDike c
+    go true q r t u x = ap isDike (held-is x)
+    go false true true t u x = ap isDike (held-is x)
+    go false true false true true x = ap isDike (held-is x)
+    go false true false true false x = let z : _≡_ {A = ℕ} 0 1 = cc in clash z
+    go false true false false u x = let z : _≡_ {A = ℕ} 0 1 = cc in clash z
+    go false false r t u x = let z : _≡_ {A = ℕ} 0 1 = cc in clash z
+
+undiked-mismatch : (c : Containment) (s : Scenario) → isDike c ≡ isMismatch (undiked c s)
+undiked-mismatch Open s = refl
+undiked-mismatch (Dike d) s = refl
+undiked-mismatch (Building b) s = refl
+
+pooled-fits : (b : Bool) (s t : Scenario) → false ≡ isMismatch (pooled b s t)
+pooled-fits true s t = refl
+pooled-fits false s t = refl
+
+factored-missing : (x : Factors) (card : ToxicCard) (l : liquids.Liquid) → isMissing x ≡ isMismatch (factored x card l)
+factored-missing (Read lf tcf) card l = refl
+factored-missing Missing card l = refl
+
+last-of-two : (a : Bool) → either (both a true) false ≡ a
+last-of-two true = refl
+last-of-two false = refl
+
+none-of-two : (a : Bool) → either (both a false) false ≡ false
+none-of-two true = refl
+none-of-two false = refl
+
+last-of-three : (a b : Bool) → either (both a false) (either b false) ≡ b
+last-of-three true true = refl
+last-of-three true false = refl
+last-of-three false true = refl
+last-of-three false false = refl
+
+-- 10 by its four cases: a gas, a liquid, byte 1, a dike, and the cell that is read
+abbrev unfit : Bool → Bool → ℕ → Bool → Bool → Bool
+unfit gas liquid state dike cell =
+    anyOf (
+      both gas (eqb state 4)
+      ∷ both liquid (among state (1 ∷ 2 ∷ 3 ∷ []))
+      ∷ both dike (among state (1 ∷ 2 ∷ []))
+      ∷ both (eqb state 4) cell
+      ∷ []
+    )
+
+gas-unfit : (b : ℕ) (s : State) (dike cell : Bool) (card : ToxicCard) (g : gases.Gas) → stateOf b ≡ stateByte.Is s → dike ≡ isDike (card .containment) → unfit true false b dike cell ≡ isMismatch (gasPlan s card g)
+unfolding stateOf among
+gas-unfit zero s dike cell card g e d = let z : _≡_ {A = ℕ} 0 1 = cc in clash z
+gas-unfit (suc zero) s dike cell card g e d =
+    last-of-two dike ∙ (d ∙ (undiked-mismatch (card .containment) (vaporOf card (g .endpoint) (g .plume)) ∙ ap (λ x. isMismatch (gasPlan x card g)) (state-is e)))
+gas-unfit (suc (suc zero)) s dike cell card g e d =
+    last-of-two dike ∙ (d ∙ (undiked-mismatch (card .containment) (vaporOf card (g .endpoint) (g .plume)) ∙ ap (λ x. isMismatch (gasPlan x card g)) (state-is e)))
+gas-unfit (suc (suc (suc zero))) s dike cell card g e d =
+    none-of-two dike
+    ∙ (pooled-fits (beyondDike (card .quantity .0) (g .df) (card .containment)) (poolOf card (g .df) (g .lfb) 100 false (g .endpoint) (g .plume)) (vaporOf card (g .endpoint) (g .plume))
+    ∙ ap (λ x. isMismatch (gasPlan x card g)) (state-is e))
+gas-unfit (suc (suc (suc (suc zero)))) s dike cell card g e d = ap (λ x. isMismatch (gasPlan x card g)) (state-is e)
+gas-unfit (suc (suc (suc (suc (suc n))))) s dike cell card g e d =
+    let none : stateOf (suc (suc (suc (suc (suc n))))) ≡ stateByte.Unlisted = no-state (suc (suc (suc (suc (suc n))))) (omega arith) in
+    let z : _≡_ {A = ℕ} 0 1 = cc in
+    clash z
+
+liquid-unfit : (b : ℕ) (s : State) (dike cell : Bool) (card : ToxicCard) (l : liquids.Liquid) → stateOf b ≡ stateByte.Is s → cell ≡ isMissing (plan.factorsOf l (columnOf (card .temperature))) → unfit false true b dike cell ≡ isMismatch (liquidPlan s card l)
+unfolding stateOf among
+liquid-unfit zero s dike cell card l e d = let z : _≡_ {A = ℕ} 0 1 = cc in clash z
+liquid-unfit (suc zero) s dike cell card l e d = ap (λ x. isMismatch (liquidPlan x card l)) (state-is e)
+liquid-unfit (suc (suc zero)) s dike cell card l e d = ap (λ x. isMismatch (liquidPlan x card l)) (state-is e)
+liquid-unfit (suc (suc (suc zero))) s dike cell card l e d = ap (λ x. isMismatch (liquidPlan x card l)) (state-is e)
+liquid-unfit (suc (suc (suc (suc zero)))) s dike cell card l e d =
+    last-of-three dike cell
+    ∙ (d ∙ (factored-missing (plan.factorsOf l (columnOf (card .temperature))) card l ∙ ap (λ x. isMismatch (liquidPlan x card l)) (state-is e)))
+liquid-unfit (suc (suc (suc (suc (suc n))))) s dike cell card l e d =
+    let none : stateOf (suc (suc (suc (suc (suc n))))) ≡ stateByte.Unlisted = no-state (suc (suc (suc (suc (suc n))))) (omega arith) in
+    let z : _≡_ {A = ℕ} 0 1 = cc in
+    clash z
+
+-- 10 holds exactly where no scenario fits a listed toxic card
+module _ (card : List ℕ) (standing : Standing) (from : Stands (fieldsOf card) standing) where
+  abbrev made : ToxicCard
+  made = cardFrom (fieldsOf card) standing
+
+  dike-is : eqb (byteAt card 3) 1 ≡ isDike (standing .containment)
+  unfolding fieldsOf
+  dike-is = dike-byte (byteAt card 3) (fourAt card 12) (twoAt card 16) (standing .containment) (from .held)
+
+  substance : (x : Toxic) → Seen (fieldsOf card .cas) x → isListed x ≡ true → mismatched card ≡ isMismatch (planFor x made)
+  unfolding mismatched ofGas ofLiquid fieldsOf
+  substance (OfGas g) (a-gas _ p q) h =
+      ap₂ (λ a b. unfit a b (byteAt card 1) (eqb (byteAt card 3) 1) (both (not (aboveFifty card)) (withoutData (cellRead card)))) p q
+      ∙ gas-unfit (byteAt card 1) (standing .state) (eqb (byteAt card 3) 1) (both (not (aboveFifty card)) (withoutData (cellRead card))) made g (from .state) dike-is
+  substance (OfLiquid l) (a-liquid _ p q c) h =
+      ap₂ (λ a b. unfit a b (byteAt card 1) (eqb (byteAt card 3) 1) (both (not (aboveFifty card)) (withoutData (cellRead card)))) p q
+      ∙ liquid-unfit (byteAt card 1) (standing .state) (eqb (byteAt card 3) 1) (both (not (aboveFifty card)) (withoutData (cellRead card))) made l (from .state)
+      (ap (λ (x : Corrections). both (not (aboveFifty card)) (withoutData (getD (cellsIn x) (columnRead (signed (fieldsOf card .heat))) NoData))) (sym c) ∙ sym (factors-missing l (signed (fieldsOf card .heat))))
+  substance NotListed (neither p q) h = let z : _≡_ {A = ℕ} 0 1 = cc in clash z
+
+  pub mismatch-is : isListed (toxicOf (fieldsOf card .cas)) ≡ true → mismatched card ≡ isMismatch (planOf made)
+  unfolding planOf
+  mismatch-is h = substance (toxicOf (fieldsOf card .cas)) (seen (fieldsOf card .cas)) h

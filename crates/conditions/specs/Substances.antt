@@ -1,0 +1,66 @@
+-- Condition 7 is what the exhibits list, and condition 10 what no scenario fits.
+-- Assumes nothing.
+use Prim.Native.Nat.{ℕ, zero, suc, _+_, _≤_, _<_}
+use native.Mathlib.Nat.{add-zero, le-of-suc-le-suc, not-suc-le-zero}
+use native.Mathlib.Omega.{arith}
+use mathlib.Core.Path.{_≡_, _∙_, refl, sym, ap, ap₂, subst}
+use mathlib.Core.Bool.{Bool, true, false, not}
+use mathlib.Core.List.{List, [], _∷_, map}
+use lib.Dec.{eqb, ltb}
+use lib.ListN.{getD}
+use lib.IntN.{ℤ, pos, negsuc}
+use lib.Signed.{ltZ}
+use borrow.Author.Tests.{eqb-true, ne-eqb}
+use Rattle.search.specs.Rising.{both}
+use Rattle.search.specs.Laws.{both-true}
+use Rattle.search.specs.Places.{either, among, every, lookUp}
+use Rattle.search.specs.PlaceLaws.{look-none, look-found, among-one}
+use Rattle.exhibits.specs.declared.Cell.{Cell}
+use Rattle.exhibits.specs.declared.Cell.the-variants.{Factor, Lfb, NoData}
+use Rattle.exhibits.specs.declared.Corrections.{Corrections}
+use Rattle.exhibits.specs.declared.Gas as gases
+use Rattle.exhibits.specs.declared.Liquid as liquids
+use Rattle.exhibits.specs.declared.Toxic.{Toxic}
+use Rattle.exhibits.specs.declared.Toxic.the-variants.{OfGas, OfLiquid, NotListed}
+use Rattle.exhibits.specs.Printed.{GasLine, gas, LiquidLine, liquid}
+use Rattle.exhibits.specs.PrintedB1.{b1}
+use Rattle.exhibits.specs.PrintedB2.{b2}
+use Rattle.exhibits.specs.Exhibits.{gasCas, liquidCas, gasIn, liquidIn, factorsOf, toxicOf}
+use Rattle.conditions.specs.Conditions.{columnRead, withoutData}
+
+clash : {A : Type 0} → _≡_ {A = ℕ} 0 1 → A
+clash z = absurd (omega arith)
+
+-- what the exhibits say of a CAS number, and in which of them it stands
+pub data Seen (cas : ℕ) : Toxic → Type 0 where
+  a-gas : (g : gases.Gas) → among cas (map gasCas b1) ≡ true → among cas (map liquidCas b2) ≡ false → Seen cas (OfGas g)
+  a-liquid : (l : liquids.Liquid) → among cas (map gasCas b1) ≡ false → among cas (map liquidCas b2) ≡ true → l .corrections ≡ factorsOf cas → Seen cas (OfLiquid l)
+  neither : among cas (map gasCas b1) ≡ false → among cas (map liquidCas b2) ≡ false → Seen cas NotListed
+
+-- no substance stands in both
+apart : every (λ a. not (among a (map liquidCas b2))) (map gasCas b1) ≡ true
+unfolding b1 b2 among
+apart = refl
+
+gas-seen : (cas : ℕ) (line : GasLine) → among cas (map gasCas b1) ≡ true → among cas (map liquidCas b2) ≡ false → Seen cas (gasIn line)
+gas-seen cas (gas c e b d p) h k = a-gas (record { lfb = b; df = d; endpoint = e; plume = p }) h k
+
+liquid-seen : (cas : ℕ) (line : LiquidLine) → liquidCas line ≡ cas → among cas (map gasCas b1) ≡ false → among cas (map liquidCas b2) ≡ true → Seen cas (liquidIn line)
+liquid-seen cas (liquid c e a b d p) q h k =
+    a-liquid (record { lfa = a; lfb = b; df = d; endpoint = e; plume = p; corrections = factorsOf c }) h k (ap factorsOf q)
+
+pub seen : (cas : ℕ) → Seen cas (toxicOf cas)
+unfolding toxicOf
+seen cas = go (among cas (map gasCas b1)) (among cas (map liquidCas b2)) refl refl
+  where
+    go : (g l : Bool) → among cas (map gasCas b1) ≡ g → among cas (map liquidCas b2) ≡ l → Seen cas (lookUp gasCas gasIn cas b1 (lookUp liquidCas liquidIn cas b2 NotListed))
+    go true l p q =
+        let line = look-found gasCas gasIn cas b1 (lookUp liquidCas liquidIn cas b2 NotListed) p in
+        subst (Seen cas) (sym (line .2)) (gas-seen cas (line .0) p (among-one cas (map gasCas b1) (map liquidCas b2) apart p))
+    go false true p q =
+        let line = look-found liquidCas liquidIn cas b2 NotListed q in
+        subst (Seen cas) (sym (look-none gasCas gasIn cas b1 (lookUp liquidCas liquidIn cas b2 NotListed) p ∙ line .2)) (liquid-seen cas (line .0) (line .1) p q)
+    go false false p q =
+        subst (Seen cas)
+        (sym (look-none gasCas gasIn cas b1 (lookUp liquidCas liquidIn cas b2 NotListed) p ∙ look-none liquidCas liquidIn cas b2 NotListed q))
+        (neither p q)
