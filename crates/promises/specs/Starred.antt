@@ -120,7 +120,7 @@ in-dike = 1
 abbrev pub in-building : ℕ
 in-building = 2
 
--- chlorine in state 2; the paper gives a building no floor, which a gas does not ask for
+-- chlorine in state 2. The paper names no floor for its building: none is read of a gas, so any will do that number 9 admits
 abbrev pub chlorine : ℕ → ℕ → ℕ → ℕ → ℕ → List ℕ
 chlorine ground containment floor pounds = cardOf 1 2 ground containment 7782505 pounds floor 0 0
 
@@ -137,8 +137,9 @@ bromine containment area wall = cardOf 1 4 urban containment 7726956 20_000 area
 abbrev pub propane : ℕ → ℕ → List ℕ
 propane pounds = cardOf 2 0 0 0 74986 pounds 0 0 0
 
--- "Starred cases are the marked ones (to be proved)", each a register, in the paper's order. Routes, tables and the rates that
--- it does not print follow from its rules; bromine and propane have their numbers of the example, the others 1 to 6.
+-- "Starred cases are the marked ones (to be proved)", in the paper's order, each a register: its cards, then the farthest
+-- toxic and the farthest flammable one. Of a card: number, bytes, route, table, area, rate, distance. Routes, tables and the
+-- rates that the paper does not print follow from its rules; bromine and propane have their numbers of its example.
 unfoldable pub rows : List Row
 rows =
     -- "*No cards: accepted, none and none."
