@@ -1,5 +1,6 @@
 #!/usr/bin/env bash
-# Runs the built listing program on the examples, on a slow pipe, on input that is too long, and where it cannot write.
+# Runs the built listing program on the examples, on a slow pipe, on input that is too long, and where it cannot write; then
+# ./list, which finds everything proved.
 set -euo pipefail
 cd "$(dirname "$0")/.."
 rings=target/bin/rings
@@ -30,4 +31,13 @@ head -c 1000000 /dev/zero >target/long-input
 test -s target/rings-error
 "$rings" <examples/document-01.register >/dev/full 2>target/rings-error || true
 test -s target/rings-error
+
+# ./list prints the listing and nothing beside it; a file that is not there ends it with a message and status 1
+./list examples/document-01.register 2>target/list-error | diff - examples/document-01.listing
+test ! -s target/list-error
+status=0
+./list examples/no-such.register >target/list-output 2>target/list-error || status=$?
+test "$status" = 1
+test ! -s target/list-output
+test -s target/list-error
 echo "the program lists $(ls examples/*.txt | wc -l) examples as stored"
