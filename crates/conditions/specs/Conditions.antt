@@ -62,19 +62,19 @@ flammable card = eqb (byteAt card 0) 2
 unfoldable pub badToxic : List ℕ → Bool
 badToxic card =
     anyOf (
-      -- "1: state, 1 gas, 2 gas liquefied under pressure, 3 gas liquefied by refrigeration alone, 4 liquid."
-      unlisted (byteAt card 1) (1 ∷ 2 ∷ 3 ∷ 4 ∷ [])
-      -- "2: ground, 1 rural, 2 urban."
-      ∷ unlisted (byteAt card 2) (1 ∷ 2 ∷ [])
-      -- "3: containment, 0 open, 1 dike, 2 building."
-      ∷ unlisted (byteAt card 3) (0 ∷ 1 ∷ 2 ∷ [])
-      -- "12 to 15: dike or floor area ..; zero if open."
-      ∷ both (eqb (byteAt card 3) 0) (filled card (12 ∷ 13 ∷ 14 ∷ 15 ∷ []))
-      -- "16, 17: wall ..; zero unless a dike."
-      ∷ both (not (eqb (byteAt card 3) 1)) (filled card (16 ∷ 17 ∷ []))
-      -- "18, 19: .. for state 4; zero otherwise."
-      ∷ both (not (eqb (byteAt card 1) 4)) (filled card (18 ∷ 19 ∷ []))
-      ∷ []
+    -- "1: state, 1 gas, 2 gas liquefied under pressure, 3 gas liquefied by refrigeration alone, 4 liquid."
+    unlisted (byteAt card 1) (1 ∷ 2 ∷ 3 ∷ 4 ∷ [])
+    -- "2: ground, 1 rural, 2 urban."
+    ∷ unlisted (byteAt card 2) (1 ∷ 2 ∷ [])
+    -- "3: containment, 0 open, 1 dike, 2 building."
+    ∷ unlisted (byteAt card 3) (0 ∷ 1 ∷ 2 ∷ [])
+    -- "12 to 15: dike or floor area ..; zero if open."
+    ∷ both (eqb (byteAt card 3) 0) (filled card (12 ∷ 13 ∷ 14 ∷ 15 ∷ []))
+    -- "16, 17: wall ..; zero unless a dike."
+    ∷ both (not (eqb (byteAt card 3) 1)) (filled card (16 ∷ 17 ∷ []))
+    -- "18, 19: .. for state 4; zero otherwise."
+    ∷ both (not (eqb (byteAt card 1) 4)) (filled card (18 ∷ 19 ∷ []))
+    ∷ []
     )
 
 -- "A flammable card has zero in bytes 1, 2, 3 and 12 to 19."
@@ -85,10 +85,10 @@ badFlammable card = filled card (1 ∷ 2 ∷ 3 ∷ 12 ∷ 13 ∷ 14 ∷ 15 ∷ 1
 unfoldable pub badForm : List ℕ → Bool
 badForm card =
     anyOf (
-      unlisted (byteAt card 0) (1 ∷ 2 ∷ [])
-      ∷ both (toxic card) (badToxic card)
-      ∷ both (flammable card) (badFlammable card)
-      ∷ []
+    unlisted (byteAt card 0) (1 ∷ 2 ∷ [])
+    ∷ both (toxic card) (badToxic card)
+    ∷ both (flammable card) (badFlammable card)
+    ∷ []
     )
 
 -- "Toxic gases are those of Exhibit B-1, liquids those of B-2, flammables those of Table 13."
@@ -112,10 +112,10 @@ badCas card =
 unfoldable pub badRange : List ℕ → Bool
 badRange card =
     anyOf (
-      badArea (byteAt card 3) (fieldsOf card .area)
-      ∷ badWall (fieldsOf card .wall)
-      ∷ badHeat (signed (fieldsOf card .heat))
-      ∷ []
+    badArea (byteAt card 3) (fieldsOf card .area)
+    ∷ badWall (fieldsOf card .wall)
+    ∷ badHeat (signed (fieldsOf card .heat))
+    ∷ []
     )
 
 -- the column of Exhibit B-4 that a temperature reads: "the closest column of B-4, the higher at a midpoint; 25 °C counts as a
@@ -155,11 +155,11 @@ aboveFifty card = ltZ (pos 500) (signed (fieldsOf card .heat))
 unfoldable pub mismatched : List ℕ → Bool
 mismatched card =
     anyOf (
-      both (ofGas card) (eqb (byteAt card 1) 4)
-      ∷ both (ofLiquid card) (among (byteAt card 1) (1 ∷ 2 ∷ 3 ∷ []))
-      ∷ both (eqb (byteAt card 3) 1) (among (byteAt card 1) (1 ∷ 2 ∷ []))
-      ∷ both (eqb (byteAt card 1) 4) (both (not (aboveFifty card)) (withoutData (cellRead card)))
-      ∷ []
+    both (ofGas card) (eqb (byteAt card 1) 4)
+    ∷ both (ofLiquid card) (among (byteAt card 1) (1 ∷ 2 ∷ 3 ∷ []))
+    ∷ both (eqb (byteAt card 3) 1) (among (byteAt card 1) (1 ∷ 2 ∷ []))
+    ∷ both (eqb (byteAt card 1) 4) (both (not (aboveFifty card)) (withoutData (cellRead card)))
+    ∷ []
     )
 
 -- "Above the last row", and "above a closed last range"

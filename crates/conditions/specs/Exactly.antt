@@ -271,8 +271,7 @@ module _ (bytes : List ℕ) (room : ℕ) where
       go (outcome.Refused s q) e = let y = refused-first s q e in absurd (none q (y .line) (y .holds))
 
 pub refused-exactly : RefusedExactly
-refused-exactly bytes room =
-    (
-      λ r place. (refused-first bytes room r place, first-refused bytes room r place),
-      (λ a. accepted-none bytes room (a .0) (a .1), none-accepted bytes room),
-    )
+refused-exactly bytes room = (
+  λ r place. (refused-first bytes room r place, first-refused bytes room r place),
+  (λ a. accepted-none bytes room (a .0) (a .1), none-accepted bytes room),
+)

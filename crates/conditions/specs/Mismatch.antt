@@ -186,11 +186,11 @@ last-of-three false false = refl
 abbrev unfit : Bool → Bool → ℕ → Bool → Bool → Bool
 unfit gas liquid state dike cell =
     anyOf (
-      both gas (eqb state 4)
-      ∷ both liquid (among state (1 ∷ 2 ∷ 3 ∷ []))
-      ∷ both dike (among state (1 ∷ 2 ∷ []))
-      ∷ both (eqb state 4) cell
-      ∷ []
+    both gas (eqb state 4)
+    ∷ both liquid (among state (1 ∷ 2 ∷ 3 ∷ []))
+    ∷ both dike (among state (1 ∷ 2 ∷ []))
+    ∷ both (eqb state 4) cell
+    ∷ []
     )
 
 gas-unfit : (b : ℕ) (s : State) (dike cell : Bool) (card : ToxicCard) (g : gases.Gas) → stateOf b ≡ stateByte.Is s → dike ≡ isDike (card .containment) → unfit true false b dike cell ≡ isMismatch (gasPlan s card g)
