@@ -20,13 +20,14 @@ use Rattle.fields.specs.declared.Fields.{Fields}
 use Rattle.fields.specs.Layout.{fieldsOf}
 use Rattle.refusals.specs.declared.Refusal.{Refusal}
 use Rattle.refusals.specs.declared.Refusal.the-variants as refusal
-use Rattle.meaning.specs.declared.Standing.{Standing}
-use Rattle.meaning.specs.declared.Shape.{Shape}
-use Rattle.meaning.specs.declared.Shape.the-variants as shape
+use Rattle.form.specs.declared.Standing.{Standing}
+use Rattle.form.specs.declared.Shape.{Shape}
+use Rattle.form.specs.declared.Shape.the-variants as shape
 use Rattle.meaning.specs.declared.Bounds.the-variants as bounds
 use Rattle.meaning.specs.declared.Meaning.the-variants as meaning
 use Rattle.refusals.specs.Numbers.{numberOf}
-use Rattle.meaning.specs.Reading.{shapeOf, badNumber, badPounds, badArea, badWall, badHeat, signed, boundsIf, boundsOf, toxicBounded, isListed, meaningIf, toxicMeaning, flammableOf, shaped, meaningOf}
+use Rattle.form.specs.Form.{shapeOf}
+use Rattle.meaning.specs.Reading.{badNumber, badPounds, badArea, badWall, badHeat, signed, boundsIf, boundsOf, toxicBounded, isListed, meaningIf, toxicMeaning, flammableOf, shaped, meaningOf}
 use Rattle.card.specs.declared.Answered.{Answered}
 use Rattle.card.specs.declared.Answered.the-variants as answered
 use Rattle.card.specs.Answers.{readToxic, plannedAnswer, readFlammable, answerFor, answerOf}

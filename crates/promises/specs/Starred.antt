@@ -23,7 +23,8 @@ use Rattle.release.specs.Pool.{poolArea, atMostTenMinutes, dikedArea, poolRate}
 use Rattle.fields.specs.Layout.{fieldsOf}
 use Rattle.meaning.specs.declared.Meaning.{Meaning}
 use Rattle.meaning.specs.declared.Meaning.the-variants as meaning
-use Rattle.meaning.specs.Reading.{badArea, badHeat, badNumber, badPounds, badWall, blank, boundsOf, flammableOf, groundOf, heldOf, meaningOf, openOf, shapeOf, signed, stateOf, toxicMeaning}
+use Rattle.form.specs.Form.{blank, groundOf, heldOf, openOf, shapeOf, stateOf}
+use Rattle.meaning.specs.Reading.{badArea, badHeat, badNumber, badPounds, badWall, boundsOf, flammableOf, meaningOf, signed, toxicMeaning}
 use Rattle.card.specs.declared.Answered.{Answered}
 use Rattle.card.specs.declared.Answered.the-variants as answered
 use Rattle.card.specs.Answers.{answerOf}

@@ -1,9 +1,9 @@
 use borrow.Author.Needs.{needs}
-use Rattle.meaning.proofs.Ends.{rural, urban, no-ground}
-use Rattle.meaning.proofs.ground_of.Statement.{statement}
-use Rattle.meaning.proofs.ground_of.Tie as tie
-use Rattle.meaning.proofs.ground_of.Reads as reads
-use Rattle.meaning.proofs.ground_of.Lts as lts
+use Rattle.form.proofs.Ends.{rural, urban, no-ground}
+use Rattle.form.proofs.ground_of.Statement.{statement}
+use Rattle.form.proofs.ground_of.Tie as tie
+use Rattle.form.proofs.ground_of.Reads as reads
+use Rattle.form.proofs.ground_of.Lts as lts
 
 -- src/lib.rt:122:9
 returns : tie.Need-returns

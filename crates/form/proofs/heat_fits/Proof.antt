@@ -1,9 +1,9 @@
-use Rattle.meaning.proofs.Ends.{heat-in}
+use Rattle.form.proofs.Ends.{heat-in}
 use borrow.Author.Needs.{needs}
-use Rattle.meaning.proofs.heat_fits.Statement.{statement}
-use Rattle.meaning.proofs.heat_fits.Tie as tie
-use Rattle.meaning.proofs.heat_fits.Reads as reads
-use Rattle.meaning.proofs.heat_fits.Lts as lts
+use Rattle.form.proofs.heat_fits.Statement.{statement}
+use Rattle.form.proofs.heat_fits.Tie as tie
+use Rattle.form.proofs.heat_fits.Reads as reads
+use Rattle.form.proofs.heat_fits.Lts as lts
 
 -- src/lib.rt:162:23
 enum-told : tie.Need-enum-told

@@ -1,11 +1,11 @@
-use Rattle.meaning.proofs.Ends.{shape-toxic, shape-blank, shape-filled, shape-none}
+use Rattle.form.proofs.Ends.{shape-toxic, shape-blank, shape-filled, shape-none}
 use borrow.Author.Needs.{needs}
-use Rattle.meaning.proofs.shape_of.Statement.{statement}
-use Rattle.meaning.proofs.shape_of.Tie as tie
-use Rattle.meaning.proofs.shape_of.Reads as reads
-use Rattle.meaning.proofs.shape_of.Lts as lts
-use Rattle.meaning.proofs.is_blank.Reads as is-blank-reads
-use Rattle.meaning.proofs.toxic_shape.Reads as toxic-shape-reads
+use Rattle.form.proofs.shape_of.Statement.{statement}
+use Rattle.form.proofs.shape_of.Tie as tie
+use Rattle.form.proofs.shape_of.Reads as reads
+use Rattle.form.proofs.shape_of.Lts as lts
+use Rattle.form.proofs.is_blank.Reads as is-blank-reads
+use Rattle.form.proofs.toxic_shape.Reads as toxic-shape-reads
 
 -- src/lib.rt:209:9
 toxic-shape-requires : tie.Need-toxic-shape-requires

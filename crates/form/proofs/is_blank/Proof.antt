@@ -1,9 +1,9 @@
-use Rattle.meaning.proofs.Ends.{blank-sum}
+use Rattle.form.proofs.Ends.{blank-sum}
 use borrow.Author.Needs.{needs}
-use Rattle.meaning.proofs.is_blank.Statement.{statement}
-use Rattle.meaning.proofs.is_blank.Tie as tie
-use Rattle.meaning.proofs.is_blank.Reads as reads
-use Rattle.meaning.proofs.is_blank.Lts as lts
+use Rattle.form.proofs.is_blank.Statement.{statement}
+use Rattle.form.proofs.is_blank.Tie as tie
+use Rattle.form.proofs.is_blank.Reads as reads
+use Rattle.form.proofs.is_blank.Lts as lts
 
 -- src/lib.rt:199:16
 cast-heat : tie.Need-cast-heat

@@ -1,10 +1,10 @@
-use Rattle.meaning.proofs.Ends.{held-dike, held-wall, held-building, held-open, held-none}
+use Rattle.form.proofs.Ends.{held-dike, held-wall, held-building, held-open, held-none}
 use borrow.Author.Needs.{needs}
-use Rattle.meaning.proofs.held_of.Statement.{statement}
-use Rattle.meaning.proofs.held_of.Tie as tie
-use Rattle.meaning.proofs.held_of.Reads as reads
-use Rattle.meaning.proofs.held_of.Lts as lts
-use Rattle.meaning.proofs.open_of.Reads as open-of-reads
+use Rattle.form.proofs.held_of.Statement.{statement}
+use Rattle.form.proofs.held_of.Tie as tie
+use Rattle.form.proofs.held_of.Reads as reads
+use Rattle.form.proofs.held_of.Lts as lts
+use Rattle.form.proofs.open_of.Reads as open-of-reads
 use Rattle.release.proofs.square_feet.Reads as square-feet-reads
 
 -- src/lib.rt:142:9

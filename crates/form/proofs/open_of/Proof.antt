@@ -1,9 +1,9 @@
 use borrow.Author.Needs.{needs}
-use Rattle.meaning.proofs.Ends.{open-zero, open-filled}
-use Rattle.meaning.proofs.open_of.Statement.{statement}
-use Rattle.meaning.proofs.open_of.Tie as tie
-use Rattle.meaning.proofs.open_of.Reads as reads
-use Rattle.meaning.proofs.open_of.Lts as lts
+use Rattle.form.proofs.Ends.{open-zero, open-filled}
+use Rattle.form.proofs.open_of.Statement.{statement}
+use Rattle.form.proofs.open_of.Tie as tie
+use Rattle.form.proofs.open_of.Reads as reads
+use Rattle.form.proofs.open_of.Lts as lts
 
 -- src/lib.rt:134:9
 returns : tie.Need-returns

@@ -1,13 +1,13 @@
-use Rattle.meaning.proofs.Ends.{no-state-shape, no-held-shape, no-ground-shape, heat-shape}
+use Rattle.form.proofs.Ends.{no-state-shape, no-held-shape, no-ground-shape, heat-shape}
 use borrow.Author.Needs.{needs}
-use Rattle.meaning.proofs.toxic_shape.Statement.{statement}
-use Rattle.meaning.proofs.toxic_shape.Tie as tie
-use Rattle.meaning.proofs.toxic_shape.Reads as reads
-use Rattle.meaning.proofs.toxic_shape.Lts as lts
-use Rattle.meaning.proofs.ground_of.Reads as ground-of-reads
-use Rattle.meaning.proofs.heat_fits.Reads as heat-fits-reads
-use Rattle.meaning.proofs.held_of.Reads as held-of-reads
-use Rattle.meaning.proofs.state_of.Reads as state-of-reads
+use Rattle.form.proofs.toxic_shape.Statement.{statement}
+use Rattle.form.proofs.toxic_shape.Tie as tie
+use Rattle.form.proofs.toxic_shape.Reads as reads
+use Rattle.form.proofs.toxic_shape.Lts as lts
+use Rattle.form.proofs.ground_of.Reads as ground-of-reads
+use Rattle.form.proofs.heat_fits.Reads as heat-fits-reads
+use Rattle.form.proofs.held_of.Reads as held-of-reads
+use Rattle.form.proofs.state_of.Reads as state-of-reads
 
 -- src/lib.rt:173:9
 state-of-requires : tie.Need-state-of-requires

@@ -1,9 +1,9 @@
 use borrow.Author.Needs.{needs}
-use Rattle.meaning.proofs.Ends.{state-1, state-2, state-3, state-4, no-state}
-use Rattle.meaning.proofs.state_of.Statement.{statement}
-use Rattle.meaning.proofs.state_of.Tie as tie
-use Rattle.meaning.proofs.state_of.Reads as reads
-use Rattle.meaning.proofs.state_of.Lts as lts
+use Rattle.form.proofs.Ends.{state-1, state-2, state-3, state-4, no-state}
+use Rattle.form.proofs.state_of.Statement.{statement}
+use Rattle.form.proofs.state_of.Tie as tie
+use Rattle.form.proofs.state_of.Reads as reads
+use Rattle.form.proofs.state_of.Lts as lts
 
 -- src/lib.rt:104:9
 returns : tie.Need-returns
