@@ -57,10 +57,10 @@ fn bad_area(containment: u8, area: u32) -> bool
 fn bad_heat(tenths: i16) -> bool
     ensures { λ r. ⌜ r ≡ badHeat tenths ⌝ }
 {
-    if scenario::below(tenths, -500) {
+    if factors::below(tenths, -500) {
         true
     } else {
-        scenario::below(3000, tenths)
+        factors::below(3000, tenths)
     }
 }
 

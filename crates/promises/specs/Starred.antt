@@ -16,7 +16,8 @@ use Rattle.dispersion.specs.PrintedDense.{endpoints5, endpoints6, endpoints7, e
 use Rattle.dispersion.specs.PrintedChemical.{table9, table10, table11, table12}
 use Rattle.dispersion.specs.Rules.{answered as answeredIn, apart, byRange, byRow, closest, closestColumn, closestFrom, closestRow, distance, fromColumn, holding, inUse, larger, largest, lastOf, markOf, past, ratioBelow, smaller, thousandths}
 use Rattle.dispersion.specs.Tables.{readIn, readingOf, tables}
-use Rattle.scenario.specs.Plan.{columnOf, planOf, poolOf, tableOf, vaporOf}
+use Rattle.factors.specs.Factors.{columnOf}
+use Rattle.scenario.specs.Plan.{planOf, poolOf, tableOf, vaporOf}
 use Rattle.header.specs.Header.{badBuffer, badCount, badLength, badVersion, headerOf}
 use Rattle.exhibits.specs.Columns.{dfOf}
 use Rattle.release.specs.Pool.{poolArea, atMostTenMinutes, dikedArea, poolRate}

@@ -1,16 +1,16 @@
 -- The cut points between the columns of B-4 mean the closest column, the higher at a midpoint.
 -- Assumes nothing.
-use Prim.Native.Nat.{ℕ, zero, suc, _+_, _≤_}
+use Prim.Native.Nat.{ℕ, zero, suc}
 use mathlib.Core.Path.{_≡_, refl}
 use mathlib.Core.Bool.{Bool, true}
 use mathlib.Core.List.{List, [], _∷_}
 use lib.Dec.{eqb}
-use lib.IntN.{ℤ, pos, negsuc}
+use lib.IntN.{pos, negsuc}
 use Rattle.search.specs.Rising.{both}
 use Rattle.dispersion.specs.Rules.{larger, apart, closest, closestFrom}
-use Rattle.scenario.specs.declared.Column.{Column}
-use Rattle.scenario.specs.declared.Column.the-variants.{At25, At30, At35, At40, At45, At50, Above}
-use Rattle.scenario.specs.Plan.{columnOf}
+use Rattle.factors.specs.declared.Column.{Column}
+use Rattle.factors.specs.declared.Column.the-variants.{At25, At30, At35, At40, At45, At50, Above}
+use Rattle.factors.specs.Factors.{columnOf}
 
 -- the columns' temperatures in tenths: "25 °C counts as a column"
 abbrev pub columns : List ℕ

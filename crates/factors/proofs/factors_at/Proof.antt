@@ -1,10 +1,10 @@
-use Rattle.scenario.proofs.Ends.{in-column}
+use Rattle.factors.proofs.Ends.{in-column}
 use borrow.Author.Needs.{needs}
-use Rattle.scenario.proofs.factors_at.Statement.{statement}
-use Rattle.scenario.proofs.factors_at.Tie as tie
-use Rattle.scenario.proofs.factors_at.Reads as reads
-use Rattle.scenario.proofs.factors_at.Lts as lts
-use Rattle.scenario.proofs.of_cell.Reads as of-cell-reads
+use Rattle.factors.proofs.factors_at.Statement.{statement}
+use Rattle.factors.proofs.factors_at.Tie as tie
+use Rattle.factors.proofs.factors_at.Reads as reads
+use Rattle.factors.proofs.factors_at.Lts as lts
+use Rattle.factors.proofs.of_cell.Reads as of-cell-reads
 
 -- src/lib.rt:167:26
 enum-told : tie.Need-enum-told

@@ -1,19 +1,17 @@
--- What other layers use of a scenario instead of its text.
+-- What other layers use of a pool's factors instead of their text.
 -- Assumes nothing.
 use Prim.Native.Nat.{ℕ, _≤_}
 use native.Mathlib.Omega.{arith}
-use mathlib.Core.Path.{_≡_, _∙_, sym, ap, subst}
-use mathlib.Core.Bool.{Bool, true, false}
 use Rattle.exhibits.specs.declared.Cell.{Cell}
 use Rattle.exhibits.specs.declared.Cell.the-variants.{Factor, Lfb, NoData}
 use Rattle.exhibits.specs.declared.Toxic.the-variants as variants
 use Rattle.exhibits.specs.declared.Liquid.{Liquid}
 use Rattle.exhibits.specs.Laws.{Within, CellWithin}
-use Rattle.scenario.specs.declared.Column.{Column}
-use Rattle.scenario.specs.declared.Column.the-variants.{At25, At30, At35, At40, At45, At50, Above}
-use Rattle.scenario.specs.declared.Factors.{Factors}
-use Rattle.scenario.specs.declared.Factors.the-variants.{Read, Missing}
-use Rattle.scenario.specs.Plan.{ofCell, factorsOf}
+use Rattle.factors.specs.declared.Column.{Column}
+use Rattle.factors.specs.declared.Column.the-variants.{At25, At30, At35, At40, At45, At50, Above}
+use Rattle.factors.specs.declared.Factors.{Factors}
+use Rattle.factors.specs.declared.Factors.the-variants.{Read, Missing}
+use Rattle.factors.specs.Factors.{ofCell, factorsOf}
 
 -- the factors that a pool reads are within document 01's limits
 abbrev pub FactorsWithin : Factors → Type 0

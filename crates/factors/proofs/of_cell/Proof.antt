@@ -1,8 +1,8 @@
 use borrow.Author.Needs.{needs}
-use Rattle.scenario.proofs.of_cell.Statement.{statement}
-use Rattle.scenario.proofs.of_cell.Tie as tie
-use Rattle.scenario.proofs.of_cell.Reads as reads
-use Rattle.scenario.proofs.of_cell.Lts as lts
+use Rattle.factors.proofs.of_cell.Statement.{statement}
+use Rattle.factors.proofs.of_cell.Tie as tie
+use Rattle.factors.proofs.of_cell.Reads as reads
+use Rattle.factors.proofs.of_cell.Lts as lts
 
 -- src/lib.rt:153:22
 enum-known-cell : tie.Need-enum-known-cell

@@ -2,14 +2,14 @@ use mathlib.Core.Path.{_≡_}
 use mathlib.Core.Bool.{true, false}
 use lib.IntN.{pos}
 use lib.Signed.{ltZ}
-use Rattle.scenario.specs.Plan.{columnOf}
-use Rattle.scenario.proofs.Ends.{turn}
+use Rattle.factors.specs.Factors.{columnOf}
+use Rattle.factors.proofs.Ends.{turn}
 use borrow.Author.Needs.{needs}
-use Rattle.scenario.proofs.closest_column.Statement.{statement}
-use Rattle.scenario.proofs.closest_column.Tie as tie
-use Rattle.scenario.proofs.closest_column.Reads as reads
-use Rattle.scenario.proofs.closest_column.Lts as lts
-use Rattle.scenario.proofs.below.Reads as below-reads
+use Rattle.factors.proofs.closest_column.Statement.{statement}
+use Rattle.factors.proofs.closest_column.Tie as tie
+use Rattle.factors.proofs.closest_column.Reads as reads
+use Rattle.factors.proofs.closest_column.Lts as lts
+use Rattle.factors.proofs.below.Reads as below-reads
 
 -- src/lib.rt:127:8
 below-requires : tie.Need-below-requires
