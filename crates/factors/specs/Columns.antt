@@ -7,7 +7,7 @@ use mathlib.Core.List.{List, [], _∷_}
 use lib.Dec.{eqb}
 use lib.IntN.{pos, negsuc}
 use Rattle.search.specs.Rising.{both}
-use Rattle.dispersion.specs.Rules.{larger, apart, closest, closestFrom}
+use Rattle.rules.specs.Rules.{larger, apart, closest, closestFrom}
 use Rattle.factors.specs.declared.Column.{Column}
 use Rattle.factors.specs.declared.Column.the-variants.{At25, At30, At35, At40, At45, At50, Above}
 use Rattle.factors.specs.Factors.{columnOf}

@@ -11,10 +11,10 @@ use Rattle.search.specs.Rising.{firstAtLeast}
 use Rattle.search.specs.Places.{among, lookUp}
 use Rattle.blast.specs.Blast.{blastReading, isFlammable, rowOf, entryAt}
 use Rattle.blast.specs.Printed13.{quantities, table13}
-use Rattle.dispersion.specs.PrintedNeutral.{table1, table2, table3, table4}
-use Rattle.dispersion.specs.PrintedDense.{endpoints5, endpoints6, endpoints7, endpoints8, rates5, rates6, rates7, rates8, table5, table6, table7, table8}
+use Rattle.neutral.specs.PrintedNeutral.{table1, table2, table3, table4}
+use Rattle.dense.specs.PrintedDense.{endpoints5, endpoints6, endpoints7, endpoints8, rates5, rates6, rates7, rates8, table5, table6, table7, table8}
 use Rattle.dispersion.specs.PrintedChemical.{table9, table10, table11, table12}
-use Rattle.dispersion.specs.Rules.{answered as answeredIn, apart, byRange, byRow, closest, closestColumn, closestFrom, closestRow, distance, fromColumn, holding, inUse, larger, largest, lastOf, markOf, past, ratioBelow, smaller, thousandths}
+use Rattle.rules.specs.Rules.{answered as answeredIn, apart, byRange, byRow, closest, closestColumn, closestFrom, closestRow, distance, fromColumn, holding, inUse, larger, largest, lastOf, markOf, past, ratioBelow, smaller, thousandths}
 use Rattle.dispersion.specs.Tables.{readIn, readingOf, tables}
 use Rattle.factors.specs.Factors.{columnOf}
 use Rattle.scenario.specs.Plan.{planOf, poolOf, tableOf, vaporOf}
