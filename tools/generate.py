@@ -389,6 +389,11 @@ def printed_import(crate, names):
     return f"use Rattle.{crate}.specs.Printed.{{{', '.join(names)}}}"
 
 
+def forms_import(names):
+    """The forms of Tables 1 to 12 stand in the crate below the tables, with the rules."""
+    return f"use Rattle.rules.specs.Printed.{{{', '.join(names)}}}"
+
+
 def variants_import(enum, used, variants):
     names = [variant for variant in variants if variant in used]
     return f"use Rattle.exhibits.specs.declared.{enum}.the-variants.{{{', '.join(names)}}}"
@@ -446,7 +451,7 @@ def printed_neutral(tables):
     return antt_file(
         "data/table01.tsv to table04.tsv",
         "Reference Tables 1 to 4 as printed. Bounds in tenths of (lbs/min)/(mg/L), distances in hundredths of a mile.",
-        [LIST_IMPORT, printed_import("dispersion", marks_used(marks) + ["Range", "closed", "above"])], definitions)
+        [LIST_IMPORT, forms_import(marks_used(marks) + ["Range", "closed", "above"])], definitions)
 
 
 def printed_dense(tables):
@@ -463,7 +468,7 @@ def printed_dense(tables):
         "data/table05.tsv to table08.tsv",
         "Reference Tables 5 to 8 as printed. Rates in lbs/min, endpoints in hundred-thousandths of mg/L, distances in\n"
         "-- hundredths of a mile.",
-        [NAT_IMPORT, LIST_IMPORT, printed_import("dispersion", ["Mark"] + marks_used(marks))], definitions)
+        [NAT_IMPORT, LIST_IMPORT, forms_import(["Mark"] + marks_used(marks))], definitions)
 
 
 def printed_chemical(tables):
@@ -477,7 +482,7 @@ def printed_chemical(tables):
     return antt_file(
         "data/table09.tsv to table12.tsv",
         "Reference Tables 9 to 12 as printed. Rates in lbs/min, distances in hundredths of a mile.",
-        [LIST_IMPORT, printed_import("dispersion", marks_used(marks) + ["Line", "line"])], definitions)
+        [LIST_IMPORT, forms_import(marks_used(marks) + ["Line", "line"])], definitions)
 
 
 def printed_13(quantities, flammables):
@@ -560,7 +565,7 @@ def neutral_arrays(tables):
             rt_array(f"Table {number}: the entries in use in hundredths of a mile, the last for the open range.",
                      f"RANGE_{number}", 16, column_in_use(marks)),
         ]
-    return arrays
+    return rt_file("data/table01.tsv to table04.tsv", arrays)
 
 
 def dense_arrays(tables):
@@ -570,13 +575,13 @@ def dense_arrays(tables):
     expect(all(table["endpoints"] == first["endpoints"] for table in tables.values()), where, "they differ in their endpoints")
     entries = flat(
         flat(entries_in_use([[distance_read(mark) for mark in row] for row in table["marks"]])) for table in tables.values())
-    return [
+    return rt_file(where, [
         *rate_arrays("Tables 5 to 8", "ROW_UPTO", "LAST_ROW", first["rates"]),
         rt_array("Tables 5 to 8: the largest endpoint that reads each column but the last, in hundred-thousandths of mg/L.",
                  "COLUMN_UPTO", 64, endpoint_cuts(first["endpoints"])),
         rt_array(f"Tables 5 to 8: the entries in use in hundredths of a mile, row by row, {DENSE_ROW_COUNT * DENSE_COLUMN_COUNT} "
                  "a table.", "DENSE", 16, entries),
-    ]
+    ])
 
 
 def chemical_arrays(tables):
@@ -589,12 +594,7 @@ def chemical_arrays(tables):
             rt_array(f"Table {number}: the urban entries in use in hundredths of a mile.", f"URBAN_{number}", 16,
                      column_in_use([urban for _, _, urban in table])),
         ]
-    return arrays
-
-
-def dispersion_arrays(neutral, dense, chemical):
-    return rt_file("data/table01.tsv to table12.tsv",
-                   neutral_arrays(neutral) + dense_arrays(dense) + chemical_arrays(chemical))
+    return rt_file("data/table09.tsv to table12.tsv", arrays)
 
 
 def blast_arrays(quantities, flammables):
@@ -622,10 +622,12 @@ def generated_files():
         "crates/exhibits/specs/PrintedB2.antt": printed_b2(liquids),
         "crates/exhibits/specs/PrintedB4.antt": printed_b4(factors),
         "crates/exhibits/src/tables.rt": exhibit_arrays(gases, liquids, factors),
-        "crates/dispersion/specs/PrintedNeutral.antt": printed_neutral(neutral),
-        "crates/dispersion/specs/PrintedDense.antt": printed_dense(dense),
+        "crates/neutral/specs/PrintedNeutral.antt": printed_neutral(neutral),
+        "crates/neutral/src/tables.rt": neutral_arrays(neutral),
+        "crates/dense/specs/PrintedDense.antt": printed_dense(dense),
+        "crates/dense/src/tables.rt": dense_arrays(dense),
         "crates/dispersion/specs/PrintedChemical.antt": printed_chemical(chemical),
-        "crates/dispersion/src/tables.rt": dispersion_arrays(neutral, dense, chemical),
+        "crates/dispersion/src/tables.rt": chemical_arrays(chemical),
         "crates/blast/specs/Printed13.antt": printed_13(quantities, flammables),
         "crates/blast/src/tables.rt": blast_arrays(quantities, flammables),
     }

@@ -27,15 +27,17 @@ use Rattle.scenario.specs.Plan.{planOf}
 use Rattle.scenario.specs.Order.{Fuller, Faster, plan-faster}
 use Rattle.fields.specs.declared.Fields.{Fields}
 use Rattle.fields.specs.Layout.{byteAt, twoAt, fourAt, fieldsOf}
-use Rattle.meaning.specs.declared.StateByte.the-variants as stateByte
-use Rattle.meaning.specs.declared.GroundByte.the-variants as groundByte
+use Rattle.form.specs.declared.StateByte.the-variants as stateByte
+use Rattle.form.specs.declared.GroundByte.the-variants as groundByte
 use Rattle.meaning.specs.declared.FlammableCard.{FlammableCard}
 use Rattle.refusals.specs.declared.Refusal.{Refusal}
 use Rattle.refusals.specs.declared.Refusal.the-variants as refusal
 use Rattle.meaning.specs.declared.Meaning.{Meaning}
 use Rattle.meaning.specs.declared.Meaning.the-variants as meaning
-use Rattle.meaning.specs.Reading.{stateOf, groundOf, heldOf, signed, badNumber, meaningIf, shaped, shapeOf, meaningOf}
-use Rattle.meaning.specs.Inverse.{ToxicFrom, FlammableFrom, toxic-from, flammable-from, held-looser}
+use Rattle.form.specs.Form.{stateOf, groundOf, heldOf, shapeOf}
+use Rattle.form.specs.Inverse.{held-looser}
+use Rattle.meaning.specs.Reading.{signed, badNumber, meaningIf, shaped, meaningOf}
+use Rattle.meaning.specs.Inverse.{ToxicFrom, FlammableFrom, toxic-from, flammable-from}
 use Rattle.card.specs.declared.Class.{Class}
 use Rattle.card.specs.declared.Class.the-variants as class
 use Rattle.card.specs.declared.Answer.{Answer}

@@ -1,9 +1,3 @@
-pub mod Printed
-pub mod PrintedNeutral
-pub mod PrintedDense
 pub mod PrintedChemical
-pub mod Rules
 pub mod Tables
-pub mod Cuts
-pub mod Closest
 pub mod Laws

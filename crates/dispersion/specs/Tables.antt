@@ -8,11 +8,11 @@ use Rattle.units.specs.declared.Reading.{Reading}
 use Rattle.units.specs.declared.Reading.the-variants.{Beyond}
 use Rattle.dispersion.specs.declared.Ground.{Ground}
 use Rattle.dispersion.specs.declared.Ground.the-variants.{Rural, Urban}
-use Rattle.dispersion.specs.Printed.{Mark, Range, Line, line}
-use Rattle.dispersion.specs.PrintedNeutral.{table1, table2, table3, table4}
-use Rattle.dispersion.specs.PrintedDense.{rates5, endpoints5, table5, rates6, endpoints6, table6, rates7, endpoints7, table7, rates8, endpoints8, table8}
+use Rattle.rules.specs.Printed.{Mark, Range, Line, line}
+use Rattle.neutral.specs.PrintedNeutral.{table1, table2, table3, table4}
+use Rattle.dense.specs.PrintedDense.{rates5, endpoints5, table5, rates6, endpoints6, table6, rates7, endpoints7, table7, rates8, endpoints8, table8}
 use Rattle.dispersion.specs.PrintedChemical.{table9, table10, table11, table12}
-use Rattle.dispersion.specs.Rules.{distance, fromColumn, closestColumn, byRow, byRange}
+use Rattle.rules.specs.Rules.{distance, fromColumn, closestColumn, byRow, byRange}
 
 -- the forms of a table: by ranges of rate / endpoint (Tables 1 to 4), by rates and endpoints (5 to 8), by rates with a
 -- rural and an urban column (9 to 12), and a number that no table has
@@ -47,6 +47,11 @@ rateOf (line rate rural urban) = rate
 abbrev pub entryOf : Ground → Line → ℕ
 entryOf Rural (line rate rural urban) = distance rural
 entryOf Urban (line rate rural urban) = distance urban
+
+-- the column of a ground
+abbrev pub columnOf : Ground → List ℕ → List ℕ → List ℕ
+columnOf Rural rural urban = rural
+columnOf Urban rural urban = urban
 
 -- what a table answers at a rate in thousandths of a pound per minute and an endpoint in hundred-thousandths of mg/L
 unfoldable pub readIn : Table → Ground → ℕ → ℕ → Reading

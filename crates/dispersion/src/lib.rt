@@ -1,33 +1,20 @@
-// Reference Tables 1 to 12: from a rate and an endpoint to a distance. The tables are constants of `tables`; the definitions
-// of specs/ say what is printed and how it is read, and the proofs tie the one to the other.
+// Reference Tables 1 to 12: from a rate and an endpoint to a distance. Tables 1 to 8 are read in the crates below; Tables 9 to 12
+// are constants of `tables`. The definitions of specs/ say what is printed, and the proofs tie the one to the other.
 mod tables;
 
 ghost use mathlib.Core.Path.{_≡_};
-ghost use mathlib.Core.Bool.{true, false};
-ghost use Prim.Native.Nat.{ℕ, suc, _+_, _*_, _/_, _<_, _≤_};
+ghost use mathlib.Core.Bool.{true};
+ghost use Prim.Native.Nat.{ℕ, _+_, _<_, _≤_};
 ghost use lib.Dec.{ltb};
 ghost use lib.ListN.{length, getD};
 ghost use Rattle.search.specs.Rising.{firstAtLeast, rises};
-ghost use Rattle.dispersion.specs.Rules.{answered};
-ghost use Rattle.dispersion.specs.Tables.{readingOf};
-ghost use Rattle.dispersion.specs.Cuts.{columnOf, scaled};
+ghost use Rattle.rules.specs.Rules.{answered};
+ghost use Rattle.dispersion.specs.Tables.{columnOf, readingOf};
 ghost use Rattle.dispersion.specs.declared.Ground.{Ground};
-use tables::BOUND_1;
-use tables::BOUND_2;
-use tables::BOUND_3;
-use tables::BOUND_4;
-use tables::COLUMN_UPTO;
-use tables::DENSE;
 use tables::LAST_9;
 use tables::LAST_10;
 use tables::LAST_11;
 use tables::LAST_12;
-use tables::LAST_ROW;
-use tables::RANGE_1;
-use tables::RANGE_2;
-use tables::RANGE_3;
-use tables::RANGE_4;
-use tables::ROW_UPTO;
 use tables::RURAL_9;
 use tables::RURAL_10;
 use tables::RURAL_11;
@@ -44,24 +31,10 @@ use units::Miles;
 use units::PoundsPerMinute;
 use units::Reading;
 
-// 25 miles, in hundredths.
-const MILE_LIMIT: u16 = 2500;
-
-// A dense table has 27 rows of 16 entries.
-const COLUMNS: usize = 16;
-
-const ENTRIES: usize = 27 * COLUMNS;
-
 // The surroundings of a card.
 pub enum Ground {
     Rural,
     Urban,
-}
-
-// The row and the column of a dense table that settle a reading.
-struct Place {
-    row: usize,
-    column: usize,
 }
 
 // A distance in hundredths of a mile.
@@ -69,60 +42,6 @@ pub fn hundredths(distance: Miles) -> u16
     ensures { λ r. ⌜ r ≡ distance .0 ⌝ }
 {
     distance.0
-}
-
-// The walk through a dense table, over the cut points of its rows and columns. A place is settled by the first cut point that
-// is not exceeded, or as the last one. The columns are walked only in the row that is settled.
-fn settle(rows: &[u64], columns: &[u64], rate: u64, endpoint: u64) -> Place
-    ensures { λ r. ⌜ (r .row ≡ firstAtLeast rate (now (rows .entry))) × (r .column ≡ firstAtLeast endpoint (now (columns .entry))) ⌝ }
-{
-    let mut row = 0;
-    let mut column = 0;
-    'rows: loop {
-        if row == rows.len() || rate <= rows[row] {
-            loop {
-                if column == columns.len() || endpoint <= columns[column] {
-                    break 'rows;
-                }
-                column += 1;
-            }
-        }
-        row += 1;
-    }
-    Place { row, column }
-}
-
-// What an entry in use answers: up to the last row it is the distance, above it only where it is 25 miles.
-fn answer(last: u64, rate: u64, entry: u16) -> Reading
-    ensures { λ r. ⌜ r ≡ answered (ltb last rate) entry ⌝ }
-{
-    if rate <= last || entry == MILE_LIMIT {
-        return Reading::Distance(Miles(entry));
-    }
-    Reading::Beyond
-}
-
-// The least rate at which rate / endpoint reaches a bound. The bound is scaled down, since the rate could not be scaled up
-// without overflow; rounding up keeps the comparison exact.
-fn reaching(bound: u32, endpoint: u32) -> u64
-    ensures { λ r. ⌜ r ≡ (bound * endpoint + 999) / 1000 ⌝ }
-{
-    (bound as u64 * endpoint as u64 + 999) / 1000
-}
-
-// A table of ranges, by the upper bounds of the closed ones and the entries in use, the open range's last.
-fn by_range(bounds: &[u32], entries: &[u16], rate: u64, endpoint: u32) -> Reading
-    requires { ⌜ length (now entries) ≡ length (now bounds) + 1 ⌝ }
-    ensures { λ r. ⌜ r ≡ answered false (getD (now (entries .entry)) (firstAtLeast (suc (1000 * rate)) (scaled endpoint (now (bounds .entry)))) 0) ⌝ }
-{
-    let mut i = 0;
-    while i < bounds.len() {
-        if rate < reaching(bounds[i], endpoint) {
-            break;
-        }
-        i += 1;
-    }
-    Reading::Distance(Miles(entries[i]))
 }
 
 // A table of rows, by their cut points, the last row's rate and the entries in use of its two columns.
@@ -139,44 +58,23 @@ fn by_row(
 {
     let row = search::first_at_least(cuts, rate);
     match ground {
-        Ground::Rural => answer(last, rate, rural[row]),
-        Ground::Urban => answer(last, rate, urban[row]),
+        Ground::Rural => rules::answer(last, rate, rural[row]),
+        Ground::Urban => rules::answer(last, rate, urban[row]),
     }
 }
 
-// Tables 1 and 2, for rural ground, whichever the card's is.
-fn neutral_rural(table: u8, rate: u64, endpoint: u32) -> Reading
-    requires { ⌜ table ≤ 2 ⌝ }
+// Tables 1 to 4, each for one ground, whichever the card's is.
+fn neutral(table: u8, rate: u64, endpoint: u32) -> Reading
+    requires { ⌜ table ≤ 4 ⌝ }
     ensures { λ r. ⌜ ((ground : Ground) → r ≡ readingOf table ground rate endpoint) ⌝ }
 {
     match table {
-        1 => by_range(&BOUND_1, &RANGE_1, rate, endpoint),
-        2 => by_range(&BOUND_2, &RANGE_2, rate, endpoint),
+        1 => neutral::table_1(rate, endpoint),
+        2 => neutral::table_2(rate, endpoint),
+        3 => neutral::table_3(rate, endpoint),
+        4 => neutral::table_4(rate, endpoint),
         _ => Reading::Beyond,
     }
-}
-
-// Tables 3 and 4, for urban ground, whichever the card's is.
-fn neutral_urban(table: u8, rate: u64, endpoint: u32) -> Reading
-    requires { ⌜ (2 < table) × (table ≤ 4) ⌝ }
-    ensures { λ r. ⌜ ((ground : Ground) → r ≡ readingOf table ground rate endpoint) ⌝ }
-{
-    if table == 3 {
-        return by_range(&BOUND_3, &RANGE_3, rate, endpoint);
-    }
-    by_range(&BOUND_4, &RANGE_4, rate, endpoint)
-}
-
-// Tables 5 to 8, each for one ground, whichever the card's is. They have the same rows and columns.
-fn dense(table: u8, rate: u64, endpoint: u32) -> Reading
-    requires { ⌜ (4 < table) × (table ≤ 8) ⌝ }
-    ensures { λ r. ⌜ ((ground : Ground) → r ≡ readingOf table ground rate endpoint) ⌝ }
-{
-    let place = settle(&ROW_UPTO, &COLUMN_UPTO, rate, endpoint as u64);
-    let row = place.row;
-    let column = place.column;
-    let first = ENTRIES * (table as usize - 5);
-    answer(LAST_ROW, rate, DENSE[first + COLUMNS * row + column])
 }
 
 // Tables 9 and 10, for ammonia, at whichever endpoint.
@@ -207,14 +105,11 @@ pub fn read(table: u8, ground: Ground, rate: PoundsPerMinute, endpoint: u32) -> 
     ensures { λ r. ⌜ r ≡ readingOf table ground (rate .0) endpoint ⌝ }
 {
     let thousandths = rate.0;
-    if table <= 2 {
-        return neutral_rural(table, thousandths, endpoint);
-    }
     if table <= 4 {
-        return neutral_urban(table, thousandths, endpoint);
+        return neutral(table, thousandths, endpoint);
     }
     if table <= 8 {
-        return dense(table, thousandths, endpoint);
+        return dense::read(table, thousandths, endpoint);
     }
     if table <= 10 {
         return ammonia(table, ground, thousandths);

@@ -5,10 +5,6 @@ use Prim.Native.Nat.{ℕ, _≤_}
 use mathlib.Core.Path.{_≡_, _∙_, ap, sym, subst}
 use mathlib.Core.Bool.{Bool, true, false}
 use borrow.Author.Tests.{eq-eqb, ne-eqb}
-use lib.IntN.{ℤ}
-use mir.Syntax.{w16}
-use mir.Val.{SFits, toZ, ofZ}
-use mir.Facts.{toZ-ofZ}
 use Rattle.exhibits.specs.declared.Plume.{Plume}
 use Rattle.exhibits.specs.declared.Liquid.{Liquid}
 use Rattle.exhibits.specs.declared.Gas.{Gas}
@@ -23,13 +19,14 @@ use Rattle.scenario.specs.declared.Planned.{Planned}
 use Rattle.scenario.specs.declared.Planned.the-variants as planned
 use Rattle.scenario.specs.declared.ToxicCard.{ToxicCard}
 use Rattle.scenario.specs.declared.Scenario.{Scenario}
-use Rattle.scenario.specs.declared.Column.{Column}
-use Rattle.scenario.specs.declared.Factors.{Factors}
-use Rattle.scenario.specs.declared.Factors.the-variants.{Read, Missing}
-use Rattle.scenario.specs.Laws.{FactorsWithin, factors-within}
+use Rattle.factors.specs.declared.Column.{Column}
+use Rattle.factors.specs.declared.Factors.{Factors}
+use Rattle.factors.specs.declared.Factors.the-variants.{Read, Missing}
+use Rattle.factors.specs.Factors.{columnOf, factorsOf}
+use Rattle.factors.specs.Laws.{FactorsWithin, factors-within}
 use Rattle.exhibits.specs.Laws.{Within}
 use Rattle.exhibits.specs.declared.Toxic.the-variants as variants
-use Rattle.scenario.specs.Plan.{tableOf, ammoniaTable, genericTable, plumeIn, columnOf, factorsOf, vaporOf, poolOf, undiked, pooled, gasPlan, liquidPlan, factored, planFor, planOf}
+use Rattle.scenario.specs.Plan.{tableOf, ammoniaTable, genericTable, plumeIn, vaporOf, poolOf, undiked, pooled, gasPlan, liquidPlan, factored, planFor, planOf}
 
 module _ (cas : ℕ) (s : State) (p : Plume) (g : Ground) (t : Bool) where
   pub ammonia : (r : ℕ) → cas ≡ 7664417 → r ≡ ammoniaTable s → r ≡ tableOf cas s p g t
@@ -49,14 +46,6 @@ module _ (cas : ℕ) (s : State) (p : Plume) (g : Ground) (t : Bool) where
   generic r q n m k f h =
       simp (ne-eqb cas 7664417 n, ne-eqb cas 7782505 m, ne-eqb cas 7446095 k, tableOf)
       (h ∙ ap (λ (x : Plume). genericTable x g t) f)
-
--- what a test of a signed number says, where it was handed the number by its bits
-pub turn : {t : ℤ} (p : ℤ → Bool) {b v : Bool} → SFits w16 t → b ≡ p (toZ w16 (ofZ w16 t)) → b ≡ v → p t ≡ v
-turn p f e q = ap p (sym (toZ-ofZ f)) ∙ (sym e ∙ q)
-
--- the factors in the column that the match has found
-pub in-column : (l : Liquid) {k m : Column} {r : Factors} → k ≡ m → r ≡ factorsOf l m → r ≡ factorsOf l k
-in-column l e q = q ∙ ap (factorsOf l) (sym e)
 
 -- route 1, put together from its calls
 pub vapor-end : (card : ToxicCard) (endpoint : ℕ) (plume : Plume) {t : ℕ} {rate : PoundsPerMinute} {inside : Bool} → inside ≡ isBuilding (card .containment) → rate .0 ≡ gasRate (card .quantity .0) inside → t ≡ tableOf (card .cas) (card .state) plume (card .ground) true → _≡_ {A = Scenario} (record { route = 1; table = t; rate = rate; endpoint = endpoint }) (vaporOf card endpoint plume)

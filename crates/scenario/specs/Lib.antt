@@ -1,4 +1,2 @@
 pub mod Plan
-pub mod Laws
 pub mod Order
-pub mod Columns

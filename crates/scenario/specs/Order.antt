@@ -18,11 +18,12 @@ use Rattle.scenario.specs.declared.State.{State}
 use Rattle.scenario.specs.declared.State.the-variants.{Gas, Pressurized, Refrigerated, Liquid}
 use Rattle.scenario.specs.declared.ToxicCard.{ToxicCard}
 use Rattle.scenario.specs.declared.Scenario.{Scenario}
-use Rattle.scenario.specs.declared.Factors.{Factors}
-use Rattle.scenario.specs.declared.Factors.the-variants.{Read, Missing}
+use Rattle.factors.specs.declared.Factors.{Factors}
+use Rattle.factors.specs.declared.Factors.the-variants.{Read, Missing}
+use Rattle.factors.specs.Factors.{columnOf, factorsOf}
 use Rattle.scenario.specs.declared.Planned.{Planned}
 use Rattle.scenario.specs.declared.Planned.the-variants as planned
-use Rattle.scenario.specs.Plan.{vaporOf, poolOf, undiked, pooled, gasPlan, factored, liquidPlan, planFor, planOf, columnOf, factorsOf}
+use Rattle.scenario.specs.Plan.{vaporOf, poolOf, undiked, pooled, gasPlan, factored, liquidPlan, planFor, planOf}
 
 -- the second card holds the same substance in the same way, at least as much of it, and no better contained
 pub record Fuller (a b : ToxicCard) : Type 0 where

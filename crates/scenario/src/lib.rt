@@ -1,18 +1,19 @@
 // Route, rate and choice of table of a toxic card: what the guidance does between a card's meaning and the tables.
 use dispersion::Ground;
-use exhibits::Cell;
 use exhibits::Gas;
 use exhibits::Liquid;
 use exhibits::Plume;
 use exhibits::Toxic;
+use factors::Column;
+use factors::Factors;
 use release::Containment;
 use units::Pounds;
 use units::PoundsPerMinute;
 ghost use mathlib.Core.Path.{_≡_};
 ghost use Prim.Native.Nat.{_≤_};
-ghost use lib.Signed.{ltZ};
 ghost use Rattle.exhibits.specs.Laws.{Within};
-ghost use Rattle.scenario.specs.Plan.{tableOf, columnOf, ofCell, factorsOf, vaporOf, poolOf, undiked, pooled, gasPlan, factored, liquidPlan, planOf, Limits};
+ghost use Rattle.factors.specs.Factors.{columnOf};
+ghost use Rattle.scenario.specs.Plan.{tableOf, vaporOf, poolOf, undiked, pooled, gasPlan, factored, liquidPlan, planOf, Limits};
 
 // How the substance is held: document 01's states 1 to 4.
 pub enum State {
@@ -40,23 +41,6 @@ pub struct Scenario {
     pub table: u8,
     pub rate: PoundsPerMinute,
     pub endpoint: u32,
-}
-
-// The liquid factor and the temperature factor that a pool reads, or that the exhibit has no data for it.
-pub enum Factors {
-    Read(u32, u16),
-    Missing,
-}
-
-// The columns of B-4, with 25 °C before them, and the temperatures above them all.
-pub enum Column {
-    At25,
-    At30,
-    At35,
-    At40,
-    At45,
-    At50,
-    Above,
 }
 
 // A card's scenario, or that its state, containment or exhibit does not allow one.
@@ -116,82 +100,6 @@ fn table(cas: u32, state: State, plume: Plume, ground: Ground, ten_minutes: bool
         return 12;
     }
     generic_table(plume_in(state, plume), ground, ten_minutes)
-}
-
-// Whether a temperature is below a limit, both in signed tenths.
-pub fn below(tenths: i16, limit: i16) -> bool
-    ensures { λ r. ⌜ r ≡ ltZ tenths limit ⌝ }
-{
-    tenths < limit
-}
-
-// The closest column of B-4, the higher at a midpoint; above 50.0 °C no column is read.
-pub fn closest_column(tenths: i16) -> Column
-    ensures { λ r. ⌜ r ≡ columnOf tenths ⌝ }
-{
-    if below(500, tenths) {
-        return Column::Above;
-    }
-    if below(tenths, 275) {
-        return Column::At25;
-    }
-    if below(tenths, 325) {
-        return Column::At30;
-    }
-    if below(tenths, 375) {
-        return Column::At35;
-    }
-    if below(tenths, 425) {
-        return Column::At40;
-    }
-    if below(tenths, 475) {
-        return Column::At45;
-    }
-    Column::At50
-}
-
-// What a cell of B-4 makes of a liquid's factors.
-fn of_cell(lfa: u32, lfb: u32, cell: Cell) -> Factors
-    ensures { λ r. ⌜ r ≡ ofCell lfa lfb cell ⌝ }
-{
-    match cell {
-        Cell::Factor(tcf) => Factors::Read(lfa, tcf),
-        Cell::Lfb => Factors::Read(lfb, 100),
-        Cell::NoData => Factors::Missing,
-    }
-}
-
-// The factors that a liquid's pool reads in this column.
-fn factors_at(liquid: Liquid, column: Column) -> Factors
-    ensures { λ r. ⌜ r ≡ factorsOf liquid column ⌝ }
-{
-    let lfa = liquid.lfa;
-    let lfb = liquid.lfb;
-    let cells = liquid.corrections;
-    match column {
-        Column::Above => Factors::Read(lfb, 100),
-        Column::At25 => Factors::Read(lfa, 100),
-        Column::At30 => {
-            let cell = cells.at30;
-            of_cell(lfa, lfb, cell)
-        }
-        Column::At35 => {
-            let cell = cells.at35;
-            of_cell(lfa, lfb, cell)
-        }
-        Column::At40 => {
-            let cell = cells.at40;
-            of_cell(lfa, lfb, cell)
-        }
-        Column::At45 => {
-            let cell = cells.at45;
-            of_cell(lfa, lfb, cell)
-        }
-        Column::At50 => {
-            let cell = cells.at50;
-            of_cell(lfa, lfb, cell)
-        }
-    }
 }
 
 // Route 1: the whole quantity as a gas over ten minutes.
@@ -306,7 +214,7 @@ fn warmth(card: ToxicCard) -> Column
     ensures { λ r. ⌜ r ≡ columnOf (card .temperature) ⌝ }
 {
     let tenths = card.temperature;
-    closest_column(tenths)
+    factors::closest_column(tenths)
 }
 
 // A liquid's pool, with the factors of its temperature.
@@ -318,7 +226,7 @@ fn spilled(card: ToxicCard, liquid: Liquid) -> Planned
     let containment = card.containment;
     let plume = liquid.plume;
     let column = warmth(card);
-    let found = factors_at(liquid, column);
+    let found = factors::factors_at(liquid, column);
     let shed = release::is_building(containment);
     match found {
         Factors::Read(lf, tcf) => {

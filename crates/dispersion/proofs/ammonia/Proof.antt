@@ -3,10 +3,10 @@ use mathlib.Core.Path.{_≡_, refl, _∙_}
 use native.Mathlib.Omega.{arith}
 use borrow.Author.Needs.{needs}
 use Rattle.dispersion.specs.PrintedChemical.{table9, table10}
-use Rattle.dispersion.specs.Rules.{distance, larger, thousandths, lastOf}
+use Rattle.rules.specs.Rules.{distance, larger, thousandths, lastOf}
 use Rattle.dispersion.specs.Tables.{tables, readingOf}
-use Rattle.dispersion.specs.Cuts.{cuts, cutsFrom, climbs, climbsFrom}
-use Rattle.dispersion.proofs.Arrays.{running}
+use Rattle.rules.specs.Cuts.{cuts, cutsFrom, climbs, climbsFrom}
+use Rattle.rules.proofs.Arrays.{running}
 use Rattle.dispersion.proofs.Means.{lines-means}
 use Rattle.dispersion.proofs.ammonia.Statement.{statement}
 use Rattle.dispersion.proofs.ammonia.Tie as tie

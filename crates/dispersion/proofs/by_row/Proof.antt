@@ -7,7 +7,7 @@ use lib.Dec.{ltb}
 use lib.ListN.{getD}
 use Rattle.search.specs.Laws.{first-within}
 use Rattle.dispersion.specs.declared.Ground.the-variants.{Rural, Urban}
-use Rattle.dispersion.specs.Rules.{answered}
+use Rattle.rules.specs.Rules.{answered}
 use Rattle.dispersion.proofs.by_row.Statement.{statement}
 use Rattle.dispersion.proofs.by_row.Tie as tie
 

@@ -1,14 +1,14 @@
 use mathlib.Core.Path.{refl}
 use lib.IntN.{pos, negsuc}
 use lib.Signed.{ltZ}
-use Rattle.scenario.proofs.Ends.{turn}
+use Rattle.factors.proofs.Ends.{turn}
 use Rattle.meaning.proofs.Ends.{heat-low, heat-high}
 use borrow.Author.Needs.{needs}
 use Rattle.meaning.proofs.bad_heat.Statement.{statement}
 use Rattle.meaning.proofs.bad_heat.Tie as tie
 use Rattle.meaning.proofs.bad_heat.Reads as reads
 use Rattle.meaning.proofs.bad_heat.Lts as lts
-use Rattle.scenario.proofs.below.Reads as below-reads
+use Rattle.factors.proofs.below.Reads as below-reads
 
 -- src/lib.rt:242:8
 below-requires : tie.Need-below-requires

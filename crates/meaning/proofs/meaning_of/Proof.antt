@@ -6,7 +6,7 @@ use Rattle.meaning.proofs.meaning_of.Reads as reads
 use Rattle.meaning.proofs.meaning_of.Lts as lts
 use Rattle.meaning.proofs.bad_number.Reads as bad-number-reads
 use Rattle.meaning.proofs.flammable_meaning.Reads as flammable-meaning-reads
-use Rattle.meaning.proofs.shape_of.Reads as shape-of-reads
+use Rattle.form.proofs.shape_of.Reads as shape-of-reads
 use Rattle.meaning.proofs.toxic_meaning.Reads as toxic-meaning-reads
 
 -- src/lib.rt:352:8

@@ -5,7 +5,7 @@ use Rattle.scenario.proofs.spilled.Tie as tie
 use Rattle.scenario.proofs.spilled.Reads as reads
 use Rattle.scenario.proofs.spilled.Lts as lts
 use Rattle.release.proofs.is_building.Reads as is-building-reads
-use Rattle.scenario.proofs.factors_at.Reads as factors-at-reads
+use Rattle.factors.proofs.factors_at.Reads as factors-at-reads
 use Rattle.scenario.proofs.pool.Reads as pool-reads
 use Rattle.scenario.proofs.warmth.Reads as warmth-reads
 

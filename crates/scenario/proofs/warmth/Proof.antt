@@ -1,13 +1,13 @@
 use mathlib.Core.Path.{ap, _∙_}
 use mir.Syntax.{w16}
 use mir.Facts.{toZ-ofZ}
-use Rattle.scenario.specs.Plan.{columnOf}
+use Rattle.factors.specs.Factors.{columnOf}
 use borrow.Author.Needs.{needs}
 use Rattle.scenario.proofs.warmth.Statement.{statement}
 use Rattle.scenario.proofs.warmth.Tie as tie
 use Rattle.scenario.proofs.warmth.Reads as reads
 use Rattle.scenario.proofs.warmth.Lts as lts
-use Rattle.scenario.proofs.closest_column.Reads as closest-column-reads
+use Rattle.factors.proofs.closest_column.Reads as closest-column-reads
 
 -- src/lib.rt:305:5
 closest-column-requires : tie.Need-closest-column-requires

@@ -1,0 +1,3 @@
+pub mod Factors
+pub mod Laws
+pub mod Columns

@@ -1,0 +1,5 @@
+pub mod Printed
+pub mod Rules
+pub mod Cuts
+pub mod Closest
+pub mod Laws
