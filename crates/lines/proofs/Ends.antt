@@ -5,8 +5,9 @@ use mathlib.Core.Path.{_≡_, sym, subst}
 use mathlib.Core.List.{List, [], _∷_, _++_}
 use Rattle.units.specs.declared.Miles.{Miles}
 use Rattle.card.specs.declared.Answer.{Answer}
-use Rattle.decimal.specs.Decimal.{digits, fixed, Wrote}
-use Rattle.decimal.specs.Laws.{joined}
+use Rattle.buffer.specs.Wrote.{Wrote}
+use Rattle.decimal.specs.Decimal.{digits, fixed}
+use Rattle.buffer.specs.Laws.{joined}
 use Rattle.farthest.specs.declared.Farthest.{Farthest}
 use Rattle.farthest.specs.declared.Farthest.the-variants as farthest
 use Rattle.lines.specs.Lines.{spaced, ended, milesText, ratesText, numbersText, cardLine, leaderLine, refusedLine}

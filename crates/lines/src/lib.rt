@@ -6,7 +6,7 @@ use units::Miles;
 use units::PoundsPerMinute;
 ghost use Prim.Native.Nat.{_+_, _≤_};
 ghost use lib.ListN.{length};
-ghost use Rattle.decimal.specs.Decimal.{Wrote};
+ghost use Rattle.buffer.specs.Wrote.{Wrote};
 ghost use Rattle.lines.specs.Lines.{milesText, ratesText, numbersText, cardLine, leaderLine, refusedLine, tooLong};
 
 // A distance and the line feed: the end of a card's line and of a leader's.
@@ -17,7 +17,7 @@ fn put_miles(out: &mut [u8], at: usize, distance: Miles) -> usize
 {
     let miles = dispersion::hundredths(distance);
     let behind = decimal::put_fixed2(out, at, miles as u64);
-    decimal::put_byte(out, behind, b'\n')
+    buffer::put_byte(out, behind, b'\n')
 }
 
 // The second half of a card's line.
@@ -27,7 +27,7 @@ fn put_rates(out: &mut [u8], at: usize, rate: PoundsPerMinute, distance: Miles) 
     ensures { λ r. ⌜ r ≤ at + 64 ⌝ }
 {
     let behind = decimal::put_fixed3(out, at, release::thousandths(rate));
-    let next = decimal::put_byte(out, behind, b' ');
+    let next = buffer::put_byte(out, behind, b' ');
     put_miles(out, next, distance)
 }
 
@@ -60,8 +60,8 @@ fn put_leading(out: &mut [u8], at: usize, letter: u8, number: u32, distance: Mil
     ensures { λ r. ⌜ Wrote (now (out .entry)) (now (out .exit)) at r (leaderLine letter (Farthest.Card number distance)) ⌝ }
     ensures { λ r. ⌜ r ≤ at + 64 ⌝ }
 {
-    let second = decimal::put_byte(out, at, letter);
-    let third = decimal::put_byte(out, second, b' ');
+    let second = buffer::put_byte(out, at, letter);
+    let third = buffer::put_byte(out, second, b' ');
     let last = decimal::put_number_then(out, third, number as u64, b' ');
     put_miles(out, last, distance)
 }
@@ -73,8 +73,8 @@ pub fn put_leader(out: &mut [u8], at: usize, letter: u8, leader: Farthest) -> us
     ensures { λ r. ⌜ r ≤ at + 64 ⌝ }
 {
     let Farthest::Card(number, distance) = leader else {
-        let word = decimal::put_byte(out, at, letter);
-        return decimal::put_text(out, word, b" none\n");
+        let word = buffer::put_byte(out, at, letter);
+        return buffer::put_text(out, word, b" none\n");
     };
     put_leading(out, at, letter, number, distance)
 }
@@ -85,9 +85,9 @@ pub fn put_refused(out: &mut [u8], at: usize, number: u8, place: u32) -> usize
     ensures { λ r. ⌜ Wrote (now (out .entry)) (now (out .exit)) at r (refusedLine number place) ⌝ }
     ensures { λ r. ⌜ r ≤ at + 64 ⌝ }
 {
-    let second = decimal::put_text(out, at, b"refused ");
+    let second = buffer::put_text(out, at, b"refused ");
     let third = decimal::put_number(out, second, number as u64);
-    let last = decimal::put_text(out, third, b" at ");
+    let last = buffer::put_text(out, third, b" at ");
     decimal::put_number_then(out, last, place as u64, b'\n')
 }
 
@@ -97,5 +97,5 @@ pub fn put_too_long(out: &mut [u8], at: usize) -> usize
     ensures { λ r. ⌜ Wrote (now (out .entry)) (now (out .exit)) at r tooLong ⌝ }
     ensures { λ r. ⌜ r ≤ at + 64 ⌝ }
 {
-    decimal::put_text(out, at, b"too long\n")
+    buffer::put_text(out, at, b"too long\n")
 }

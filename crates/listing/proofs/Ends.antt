@@ -17,8 +17,8 @@ use Rattle.header.specs.Header.{headerOf}
 use Rattle.register.specs.declared.Outcome.{Outcome}
 use Rattle.register.specs.declared.Outcome.the-variants as outcome
 use Rattle.register.specs.Register.{outcomeOf}
-use Rattle.decimal.specs.Decimal.{Wrote}
-use Rattle.decimal.specs.Laws.{joined, written-first}
+use Rattle.buffer.specs.Wrote.{Wrote}
+use Rattle.buffer.specs.Laws.{joined, written-first}
 use Rattle.lines.specs.Lines.{leaderLine, refusedLine, tooLong}
 use Rattle.listing.specs.declared.Listed.{Listed}
 use Rattle.listing.specs.declared.Listed.the-variants as listed

@@ -7,7 +7,7 @@ use register::Outcome;
 ghost use mathlib.Core.Path.{_≡_};
 ghost use Prim.Native.Nat.{_*_, _≤_};
 ghost use lib.ListN.{length};
-ghost use Rattle.decimal.specs.Decimal.{Wrote};
+ghost use Rattle.buffer.specs.Wrote.{Wrote};
 ghost use Rattle.header.specs.Header.{headerOf};
 ghost use Rattle.register.specs.Register.{outcomeOf};
 ghost use Rattle.listing.specs.Listing.{enough, leaderLines, listedAfter, listingRoom, listedOf, listedInto, Within};

@@ -27,7 +27,7 @@ use Rattle.meaning.specs.Reading.{badArea, badHeat, badNumber, badPounds, badWa
 use Rattle.card.specs.declared.Answered.{Answered}
 use Rattle.card.specs.declared.Answered.the-variants as answered
 use Rattle.card.specs.Answers.{answerOf}
-use Rattle.encode.specs.Bytes.{twoBytes, fourBytes}
+use Rattle.buffer.specs.Numbers.{twoBytes, fourBytes}
 use Rattle.farthest.specs.Farthest.{noLeaders, leadersFrom, leadersOf}
 use Rattle.register.specs.declared.Outcome.the-variants as outcome
 use Rattle.register.specs.Register.{outcomeOf, cardsOf, cardsFrom}

@@ -7,8 +7,8 @@ use mathlib.Core.Path.{_≡_, _∙_, refl, ap, ap₂, sym, subst}
 use mathlib.Core.List.{List, [], _∷_, _++_}
 use lib.ListN.{length, take, drop, length-append, length-drop}
 use lib.Seq.{sets, take-all, take-at}
-use Rattle.decimal.specs.Decimal.{Wrote}
-use Rattle.decimal.specs.Laws.{sets-append, written-first}
+use Rattle.buffer.specs.Wrote.{Wrote}
+use Rattle.buffer.specs.Laws.{sets-append, written-first}
 use Rattle.refusals.specs.declared.Refusal.{Refusal}
 use Rattle.card.specs.declared.Answer.{Answer}
 use Rattle.card.specs.declared.Answered.{Answered}

@@ -106,7 +106,7 @@ fn answer_long(cards: &[u8], count: usize, answers: &mut [u8]) -> Outcome
     let end = 16 * count;
     match outcome {
         Outcome::Accepted(leaders) => {
-            decimal::put_text(answers, 0, &scratch[..end]);
+            buffer::put_text(answers, 0, &scratch[..end]);
             Outcome::Accepted(leaders)
         }
         Outcome::Refused(refusal, place) => Outcome::Refused(refusal, place),

@@ -4,9 +4,9 @@ use Rattle.fields.proofs.fields_of.Statement.{statement}
 use Rattle.fields.proofs.fields_of.Tie as tie
 use Rattle.fields.proofs.fields_of.Reads as reads
 use Rattle.fields.proofs.fields_of.Lts as lts
-use Rattle.fields.proofs.byte.Reads as byte-reads
-use Rattle.fields.proofs.four.Reads as four-reads
-use Rattle.fields.proofs.two.Reads as two-reads
+use Rattle.buffer.proofs.byte.Reads as byte-reads
+use Rattle.buffer.proofs.four.Reads as four-reads
+use Rattle.buffer.proofs.two.Reads as two-reads
 
 -- src/lib.rt:52:15
 byte-requires : tie.Need-byte-requires

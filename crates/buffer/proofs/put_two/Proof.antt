@@ -1,11 +1,11 @@
--- `encode::put_two` meets its contract: two stores, the higher byte first.
+-- `buffer::put_two` meets its contract: two stores, the higher byte first.
 -- Assumes nothing.
 use native.Mathlib.Omega.{arith}
 use lib.ListN.{length-set}
 use borrow.Author.Needs.{needs}
-use Rattle.encode.proofs.Ends.{two-end}
-use Rattle.encode.proofs.put_two.Statement.{statement}
-use Rattle.encode.proofs.put_two.Tie as tie
+use Rattle.buffer.proofs.Ends.{two-end}
+use Rattle.buffer.proofs.put_two.Statement.{statement}
+use Rattle.buffer.proofs.put_two.Tie as tie
 
 cast-out : tie.Need-cast-out
 cast-out c = search needs

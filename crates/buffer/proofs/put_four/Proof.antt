@@ -1,9 +1,9 @@
--- `encode::put_four` meets its contract: two halves of two bytes, the higher first.
+-- `buffer::put_four` meets its contract: two halves of two bytes, the higher first.
 -- Assumes nothing.
 use borrow.Author.Needs.{needs}
-use Rattle.encode.proofs.Ends.{four-end}
-use Rattle.encode.proofs.put_four.Statement.{statement}
-use Rattle.encode.proofs.put_four.Tie as tie
+use Rattle.buffer.proofs.Ends.{four-end}
+use Rattle.buffer.proofs.put_four.Statement.{statement}
+use Rattle.buffer.proofs.put_four.Tie as tie
 
 cast-put-two : tie.Need-cast-put-two
 cast-put-two c = search needs

@@ -2,10 +2,10 @@ use mathlib.Core.Path.{sym}
 use lib.ListN.{List·getD-eq-default}
 use denote.Ref.{now}
 use borrow.Author.Needs.{needs}
-use Rattle.fields.proofs.byte.Statement.{statement}
-use Rattle.fields.proofs.byte.Tie as tie
-use Rattle.fields.proofs.byte.Reads as reads
-use Rattle.fields.proofs.byte.Lts as lts
+use Rattle.buffer.proofs.byte.Statement.{statement}
+use Rattle.buffer.proofs.byte.Tie as tie
+use Rattle.buffer.proofs.byte.Reads as reads
+use Rattle.buffer.proofs.byte.Lts as lts
 
 -- src/lib.rt:24:27
 shared-slice-read-result : tie.Need-shared-slice-read-result

@@ -1,4 +1,4 @@
--- `decimal::put_text` meets its contract. What is left of the word, on the buffer as it is, gives what the whole word gives
+-- `buffer::put_text` meets its contract. What is left of the word, on the buffer as it is, gives what the whole word gives
 -- on the buffer as it came; the measure is the count of bytes left.
 -- Assumes nothing.
 use mathlib.Core.Path.{_≡_, refl, sym, _∙_}
@@ -7,9 +7,9 @@ use native.Mathlib.Omega.{arith}
 use lib.ListN.{length, drop, length-set}
 use lib.Seq.{sets}
 use borrow.Author.Needs.{needs}
-use Rattle.decimal.proofs.Turns.{word-start, word-turn, word-end}
-use Rattle.decimal.proofs.put_text.Statement.{statement}
-use Rattle.decimal.proofs.put_text.Tie as tie
+use Rattle.buffer.proofs.Turns.{word-start, word-turn, word-end}
+use Rattle.buffer.proofs.put_text.Statement.{statement}
+use Rattle.buffer.proofs.put_text.Tie as tie
 
 abbrev Inv-loop : tie.InvT-loop
 Inv-loop out₀ at text i₀ out i =

@@ -1,9 +1,9 @@
--- `encode::put_eight` meets its contract: two halves of four bytes, the higher first.
+-- `buffer::put_eight` meets its contract: two halves of four bytes, the higher first.
 -- Assumes nothing.
 use borrow.Author.Needs.{needs}
-use Rattle.encode.proofs.Ends.{eight-end}
-use Rattle.encode.proofs.put_eight.Statement.{statement}
-use Rattle.encode.proofs.put_eight.Tie as tie
+use Rattle.buffer.proofs.Ends.{eight-end}
+use Rattle.buffer.proofs.put_eight.Statement.{statement}
+use Rattle.buffer.proofs.put_eight.Tie as tie
 
 cast-put-four : tie.Need-cast-put-four
 cast-put-four c = search needs
