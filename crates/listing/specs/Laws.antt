@@ -16,7 +16,7 @@ use Rattle.farthest.specs.declared.Leaders.{Leaders}
 use Rattle.header.specs.declared.Header.{Header}
 use Rattle.header.specs.declared.Header.the-variants as header
 use Rattle.header.specs.Header.{headerOf}
-use Rattle.register.specs.declared.Outcome.the-variants as outcome
+use Rattle.walk.specs.declared.Outcome.the-variants as outcome
 use Rattle.register.specs.Register.{Cards, answers, sent-back, then, cardsFrom, cardsOf, resultOf, afterHeader, outcomeOf}
 use Rattle.register.specs.Laws.{joined-is}
 use Rattle.lines.specs.Lines.{cardLine, refusedLine}

@@ -29,7 +29,7 @@ use Rattle.card.specs.declared.Answered.the-variants as answered
 use Rattle.card.specs.Answers.{answerOf}
 use Rattle.buffer.specs.Numbers.{twoBytes, fourBytes}
 use Rattle.farthest.specs.Farthest.{noLeaders, leadersFrom, leadersOf}
-use Rattle.register.specs.declared.Outcome.the-variants as outcome
+use Rattle.walk.specs.declared.Outcome.the-variants as outcome
 use Rattle.register.specs.Register.{outcomeOf, cardsOf, cardsFrom}
 
 -- a card's 24 bytes: kind, state, ground, containment, CAS number, pounds, area, wall, temperature, and the number 1

@@ -1,4 +1,4 @@
--- The walks of the code come to what a register is.
+-- The walks of the code (`walk/specs/Walks.antt`) come to what a register is (`Register.antt`).
 -- Assumes nothing.
 use Prim.Native.Nat.{ℕ, zero, suc, _+_, _-_, _*_, _≤_}
 use native.Mathlib.Omega.{arith}
@@ -21,10 +21,10 @@ use Rattle.encode.specs.Laws.{length-answer}
 use Rattle.header.specs.declared.Header.{Header}
 use Rattle.header.specs.declared.Header.the-variants as header
 use Rattle.header.specs.Header.{headerOf, headerRefusal, HeaderFits, Fitting}
-use Rattle.register.specs.declared.Outcome.{Outcome}
-use Rattle.register.specs.declared.Outcome.the-variants as outcome
+use Rattle.walk.specs.declared.Outcome.{Outcome}
+use Rattle.walk.specs.declared.Outcome.the-variants as outcome
 use Rattle.register.specs.Register.{Cards, answers, sent-back, joined, then, cardsFrom, cardsOf, resultOf, afterHeader, outcomeOf, bytesOf, filledWith, filledAfter, bufferOf}
-use Rattle.register.specs.Walks.{surveyed, surveyFrom, filled, fillFrom}
+use Rattle.walk.specs.Walks.{surveyed, surveyFrom, filled, fillFrom}
 
 clash : {A : Type 0} → _≡_ {A = ℕ} 0 1 → A
 clash z = absurd (omega arith)

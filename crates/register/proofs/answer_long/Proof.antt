@@ -11,7 +11,7 @@ use Rattle.register.proofs.answer_long.Tie as tie
 use Rattle.register.proofs.answer_long.Reads as reads
 use Rattle.register.proofs.answer_long.Lts as lts
 use Rattle.buffer.proofs.put_text.Reads as put-text-reads
-use Rattle.register.proofs.survey_and_fill.Reads as survey-and-fill-reads
+use Rattle.walk.proofs.survey_and_fill.Reads as survey-and-fill-reads
 
 -- src/lib.rt:118:49
 slice-aggregate-survey-and-fill : tie.Need-slice-aggregate-survey-and-fill

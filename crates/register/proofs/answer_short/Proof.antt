@@ -4,8 +4,8 @@ use Rattle.register.proofs.answer_short.Statement.{statement}
 use Rattle.register.proofs.answer_short.Tie as tie
 use Rattle.register.proofs.answer_short.Reads as reads
 use Rattle.register.proofs.answer_short.Lts as lts
-use Rattle.register.proofs.survey.Reads as survey-reads
-use Rattle.register.proofs.survey_and_fill.Reads as survey-and-fill-reads
+use Rattle.walk.proofs.survey.Reads as survey-reads
+use Rattle.walk.proofs.survey_and_fill.Reads as survey-and-fill-reads
 
 -- src/lib.rt:87:9
 survey-requires : tie.Need-survey-requires

@@ -9,7 +9,7 @@ use Rattle.register.proofs.outcome_of.Reads as reads
 use Rattle.register.proofs.outcome_of.Lts as lts
 use Rattle.header.proofs.header_of.Reads as header-of-reads
 use Rattle.header.proofs.header_refusal.Reads as header-refusal-reads
-use Rattle.register.proofs.survey.Reads as survey-reads
+use Rattle.walk.proofs.survey.Reads as survey-reads
 
 -- src/lib.rt:102:9
 header-of-requires : tie.Need-header-of-requires

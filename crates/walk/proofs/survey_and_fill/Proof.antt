@@ -5,17 +5,17 @@ use borrow.Author.Needs.{needs}
 use lib.ListN.{length}
 use denote.Ref.{now}
 use Rattle.farthest.specs.Farthest.{noLeaders}
-use Rattle.register.specs.Walks.{surveyFrom, fillFrom}
-use Rattle.register.proofs.Turns.{Survey, survey-start, survey-turn, survey-refused, survey-end, Fill, fill-start, fill-turn, fill-refused, fill-end}
-use Rattle.register.proofs.survey_and_fill.Statement.{statement}
-use Rattle.register.proofs.survey_and_fill.Tie as tie
-use Rattle.register.proofs.survey_and_fill.Reads as reads
-use Rattle.register.proofs.survey_and_fill.Lts as lts
+use Rattle.walk.specs.Walks.{surveyFrom, fillFrom}
+use Rattle.walk.proofs.Turns.{Survey, survey-start, survey-turn, survey-refused, survey-end, Fill, fill-start, fill-turn, fill-refused, fill-end}
+use Rattle.walk.proofs.survey_and_fill.Statement.{statement}
+use Rattle.walk.proofs.survey_and_fill.Tie as tie
+use Rattle.walk.proofs.survey_and_fill.Reads as reads
+use Rattle.walk.proofs.survey_and_fill.Lts as lts
 use Rattle.encode.proofs.put_answer.Reads as put-answer-reads
 use Rattle.farthest.proofs.lead.Reads as lead-reads
 use Rattle.farthest.proofs.no_leaders.Reads as no-leaders-reads
-use Rattle.register.proofs.answer_at.Reads as answer-at-reads
-use Rattle.register.proofs.refusal_of.Reads as refusal-of-reads
+use Rattle.walk.proofs.answer_at.Reads as answer-at-reads
+use Rattle.walk.proofs.refusal_of.Reads as refusal-of-reads
 
 abbrev Inv-loop : tie.InvT-loop
 Inv-loop cards count out₀ leaders₀ last₀ place₀ out leaders last place =

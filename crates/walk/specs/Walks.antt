@@ -1,10 +1,12 @@
 -- The two walks of the code over a register's cards, as they go: the first keeps the leaders, the second writes the answers.
--- Their laws join them to what a register is.
+-- They serve the proofs; what a register is stands in `register/specs/Register.antt`, and the laws beside it join the two.
 -- Assumes nothing.
 use Prim.Native.Nat.{ℕ, zero, suc, _+_, _*_}
 use mathlib.Core.List.{List}
 use lib.ListN.{take, drop}
 use lib.Seq.{sets}
+use Rattle.refusals.specs.declared.Refusal.{Refusal}
+use Rattle.refusals.specs.declared.Refusal.the-variants as refusal
 use Rattle.card.specs.declared.Answer.{Answer}
 use Rattle.card.specs.declared.Answered.{Answered}
 use Rattle.card.specs.declared.Answered.the-variants as answered
@@ -13,8 +15,13 @@ use Rattle.farthest.specs.declared.Leaders.{Leaders}
 use Rattle.farthest.specs.Farthest.{leadersAfter}
 use Rattle.encode.specs.Bytes.{answerBytes}
 use Rattle.header.specs.Header.{cardSize, answerSize}
-use Rattle.register.specs.declared.Outcome.{Outcome}
-use Rattle.register.specs.declared.Outcome.the-variants as outcome
+use Rattle.walk.specs.declared.Outcome.{Outcome}
+use Rattle.walk.specs.declared.Outcome.the-variants as outcome
+
+-- the refusal of a card that has one; the last of them where it has none
+abbrev pub answeredRefusal : Answered → Refusal
+answeredRefusal (answered.Is a) = refusal.Beyond
+answeredRefusal (answered.Refused r) = r
 
 abbrev pub surveyed : Answered → ℕ → (Answer → Outcome) → Outcome
 surveyed (answered.Is a) place further = further a

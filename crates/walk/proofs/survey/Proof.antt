@@ -4,16 +4,16 @@ use native.Mathlib.Omega.{arith}
 use borrow.Author.Needs.{needs}
 use denote.Ref.{now}
 use Rattle.farthest.specs.Farthest.{noLeaders}
-use Rattle.register.specs.Walks.{surveyFrom}
-use Rattle.register.proofs.Turns.{Survey, survey-start, survey-turn, survey-refused, survey-end}
-use Rattle.register.proofs.survey.Statement.{statement}
-use Rattle.register.proofs.survey.Tie as tie
-use Rattle.register.proofs.survey.Reads as reads
-use Rattle.register.proofs.survey.Lts as lts
+use Rattle.walk.specs.Walks.{surveyFrom}
+use Rattle.walk.proofs.Turns.{Survey, survey-start, survey-turn, survey-refused, survey-end}
+use Rattle.walk.proofs.survey.Statement.{statement}
+use Rattle.walk.proofs.survey.Tie as tie
+use Rattle.walk.proofs.survey.Reads as reads
+use Rattle.walk.proofs.survey.Lts as lts
 use Rattle.farthest.proofs.lead.Reads as lead-reads
 use Rattle.farthest.proofs.no_leaders.Reads as no-leaders-reads
-use Rattle.register.proofs.answer_at.Reads as answer-at-reads
-use Rattle.register.proofs.refusal_of.Reads as refusal-of-reads
+use Rattle.walk.proofs.answer_at.Reads as answer-at-reads
+use Rattle.walk.proofs.refusal_of.Reads as refusal-of-reads
 
 abbrev Inv-loop : tie.InvT-loop
 Inv-loop cards count leaders₀ last₀ place₀ leaders last place =

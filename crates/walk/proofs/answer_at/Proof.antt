@@ -5,10 +5,10 @@ use lib.ListN.{take, drop}
 use denote.Ref.{now}
 use Rattle.card.specs.Answers.{answerOf}
 use borrow.Author.Needs.{needs}
-use Rattle.register.proofs.answer_at.Statement.{statement}
-use Rattle.register.proofs.answer_at.Tie as tie
-use Rattle.register.proofs.answer_at.Reads as reads
-use Rattle.register.proofs.answer_at.Lts as lts
+use Rattle.walk.proofs.answer_at.Statement.{statement}
+use Rattle.walk.proofs.answer_at.Tie as tie
+use Rattle.walk.proofs.answer_at.Reads as reads
+use Rattle.walk.proofs.answer_at.Lts as lts
 use Rattle.card.proofs.answer_of.Reads as answer-of-reads
 
 -- src/lib.rt:34:14

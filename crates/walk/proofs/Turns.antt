@@ -16,10 +16,9 @@ use Rattle.card.specs.Answers.{answerOf}
 use Rattle.farthest.specs.declared.Leaders.{Leaders}
 use Rattle.farthest.specs.Farthest.{leadersAfter}
 use Rattle.encode.specs.Bytes.{answerBytes}
-use Rattle.register.specs.declared.Outcome.{Outcome}
-use Rattle.register.specs.declared.Outcome.the-variants as outcome
-use Rattle.register.specs.Register.{answeredRefusal}
-use Rattle.register.specs.Walks.{surveyed, surveyFrom, filled, fillFrom}
+use Rattle.walk.specs.declared.Outcome.{Outcome}
+use Rattle.walk.specs.declared.Outcome.the-variants as outcome
+use Rattle.walk.specs.Walks.{answeredRefusal, surveyed, surveyFrom, filled, fillFrom}
 
 module _ (cards : List ℕ) (count : ℕ) where
   -- what is left of the first walk at a place
