@@ -1,12 +1,15 @@
--- One law for each number that is written: the stores, or the two halves, put together.
+-- One law for a byte past the end, and one for each number that is written: the stores, or the two halves, put together.
 -- Assumes nothing.
-use Prim.Native.Nat.{ℕ, _+_, _/_, _%_}
-use mathlib.Core.Path.{_≡_, refl}
+use Prim.Native.Nat.{ℕ, _+_, _/_, _%_, _≤_}
+use mathlib.Core.Path.{_≡_, refl, sym}
 use mathlib.Core.List.{List}
-use lib.ListN.{set}
+use lib.ListN.{length, set, List·getD-eq-default}
 use lib.Seq.{sets}
-use Rattle.buffer.specs.Numbers.{twoBytes, fourBytes, eightBytes}
+use Rattle.buffer.specs.Numbers.{byteAt, twoBytes, fourBytes, eightBytes}
 use Rattle.buffer.specs.Laws.{sets-behind, sets-pair, length-two, length-four}
+
+pub past-end : (bytes : List ℕ) (at : ℕ) → length bytes ≤ at → 0 ≡ byteAt bytes at
+past-end bytes at h = sym (List·getD-eq-default bytes 0 h)
 
 pub two-end : (b : List ℕ) (at n : ℕ) → set (set b at (n / 256 % 256)) (at + 1) (n % 256) ≡ sets b at (twoBytes n)
 unfolding twoBytes

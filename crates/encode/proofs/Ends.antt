@@ -4,12 +4,17 @@ use Prim.Native.Nat.{ℕ, _+_}
 use native.Mathlib.Omega.{arith}
 use mathlib.Core.Path.{_≡_, refl, ap, _∙_}
 use mathlib.Core.List.{List, [], _∷_, _++_}
-use lib.ListN.{set}
+use lib.ListN.{length, set, length-set}
 use lib.Seq.{sets}
 use Rattle.buffer.specs.Numbers.{twoBytes, fourBytes, eightBytes}
 use Rattle.buffer.specs.Laws.{sets-behind, sets-pair, length-four, length-eight}
 use Rattle.card.specs.declared.Answer.{Answer}
 use Rattle.encode.specs.Bytes.{answerBytes}
+
+-- the two stores between the calls keep the length
+pub length-kept : (b₀ b₁ b₂ b₃ : List ℕ) (i j x y : ℕ) → length b₁ ≡ length b₀ → length b₂ ≡ length (set (set b₁ i x) j y)
+    → length b₃ ≡ length b₂ → length b₃ ≡ length b₀
+length-kept b₀ b₁ b₂ b₃ i j x y first second third = omega (arith, simp length-set at second)
 
 -- the number, the route and the table, the rate, the distance
 pub answer-end : (a : Answer) (at rate distance : ℕ) (b₀ b₁ b₂ b₃ : List ℕ)

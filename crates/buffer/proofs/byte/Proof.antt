@@ -1,23 +1,18 @@
-use mathlib.Core.Path.{sym}
-use lib.ListN.{List·getD-eq-default}
-use denote.Ref.{now}
+-- `buffer::byte` meets its contract: past the end there is no byte, and it reads 0.
+-- Assumes nothing.
+use Rattle.buffer.proofs.Ends.{past-end}
 use borrow.Author.Needs.{needs}
 use Rattle.buffer.proofs.byte.Statement.{statement}
 use Rattle.buffer.proofs.byte.Tie as tie
-use Rattle.buffer.proofs.byte.Reads as reads
-use Rattle.buffer.proofs.byte.Lts as lts
 
--- src/lib.rt:24:27
 shared-slice-read-result : tie.Need-shared-slice-read-result
 shared-slice-read-result c = search needs
 
--- src/lib.rt:21:1
 returns : tie.Need-returns
 returns c = search needs
 
--- src/lib.rt:21:1
 returns-2 : tie.Need-returns-2
-returns-2 c = sym (List·getD-eq-default (now (c .before .args .bytes)) 0 (c .if1 .left))
+returns-2 c = search (past-end, needs)
 
 pub byte-spec : {M : Type 1} → statement M
 byte-spec = tie.close (tie.spec shared-slice-read-result returns returns-2)

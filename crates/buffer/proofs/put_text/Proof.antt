@@ -1,7 +1,7 @@
 -- `buffer::put_text` meets its contract. What is left of the word, on the buffer as it is, gives what the whole word gives
 -- on the buffer as it came; the measure is the count of bytes left.
 -- Assumes nothing.
-use mathlib.Core.Path.{_≡_, refl, sym, _∙_}
+use mathlib.Core.Path.{_≡_}
 use Prim.Native.Nat.{_+_, _-_, _≤_}
 use native.Mathlib.Omega.{arith}
 use lib.ListN.{length, drop, length-set}
@@ -19,7 +19,7 @@ abbrev μ-loop : tie.MeasureT-loop
 μ-loop out₀ at text i₀ out i = length text - i
 
 loop-holds : tie.Need-loop-holds Inv-loop μ-loop
-loop-holds c = (word-start (c .args .text .now) (c .args .out .now) (c .args .at), omega arith, refl)
+loop-holds c = search (word-start, needs)
 
 shared-slice-read-out : tie.Need-shared-slice-read-out Inv-loop μ-loop
 shared-slice-read-out c = omega arith
@@ -37,13 +37,7 @@ loop-less : tie.Need-loop-less Inv-loop μ-loop
 loop-less c = omega arith
 
 loop-again : tie.Need-loop-again Inv-loop μ-loop
-loop-again c =
-    let args = c .before .before .before .args in
-    let loop = c .before .before .loop in (
-      loop .inv .0 ∙ word-turn (args .text .now) (loop .out) (args .at) (loop .i) (c .before .loop-test .taken),
-      omega arith,
-      simp length-set (omega arith),
-    )
+loop-again c = search (word-turn, needs)
 
 add-result : tie.Need-add-result Inv-loop μ-loop
 add-result c = omega arith
@@ -52,13 +46,7 @@ same-length : tie.Need-same-length Inv-loop μ-loop
 same-length c = search needs
 
 returns : tie.Need-returns Inv-loop μ-loop
-returns c =
-    let args = c .before .before .args in
-    let loop = c .before .loop in
-    record {
-      place = refl;
-      bytes = sym (loop .inv .0 ∙ word-end (args .text .now) (loop .out) (args .at) (loop .i) (c .loop-test .left));
-    }
+returns c = search (word-end, needs)
 
 pub put-text-spec : {M : Type 1} → statement M
 put-text-spec =
