@@ -19,7 +19,7 @@ use Rattle.walk.specs.declared.Outcome.the-variants as outcome
 use Rattle.register.specs.Register.{outcomeOf}
 use Rattle.buffer.specs.Wrote.{Wrote}
 use Rattle.buffer.specs.Laws.{joined, written-first}
-use Rattle.lines.specs.Lines.{leaderLine, refusedLine, tooLong}
+use Rattle.closing.specs.Closing.{leaderLine, refusedLine, tooLong}
 use Rattle.listing.specs.declared.Listed.{Listed}
 use Rattle.listing.specs.declared.Listed.the-variants as listed
 use Rattle.listing.specs.Listing.{longest, enough, leaderLines, listedAfter, unlessLong, textOf, listingRoom, ifRoom, listedOf, keptIf, listedInto}

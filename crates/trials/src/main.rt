@@ -31,7 +31,7 @@ fn fill(register: &[u8], room: usize, text: &mut [u8]) {
         return;
     };
     let mut line = [0u8; 64];
-    let end = lines::put_refused(&mut line, 0, refusals::number(refusal), place);
+    let end = closing::put_refused(&mut line, 0, refusals::number(refusal), place);
     io::write_all(STDOUT_FILENO, &line[..end]);
 }
 

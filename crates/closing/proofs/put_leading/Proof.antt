@@ -1,9 +1,9 @@
--- `lines::put_leading` meets its contract: the letter, the card number and the miles, with a space after each of the first two.
+-- `closing::put_leading` meets its contract: the letter, the card number and the miles, with a space after each of the first two.
 -- Assumes nothing.
-use Rattle.lines.proofs.Ends.{leading-line}
+use Rattle.closing.proofs.Ends.{leading-line}
 use borrow.Author.Needs.{needs}
-use Rattle.lines.proofs.put_leading.Statement.{statement}
-use Rattle.lines.proofs.put_leading.Tie as tie
+use Rattle.closing.proofs.put_leading.Statement.{statement}
+use Rattle.closing.proofs.put_leading.Tie as tie
 
 put-byte-requires : tie.Need-put-byte-requires
 put-byte-requires c κs = search needs

@@ -1,9 +1,9 @@
--- `lines::put_refused` meets its contract: the two words and the two numbers.
+-- `closing::put_refused` meets its contract: the two words and the two numbers.
 -- Assumes nothing.
-use Rattle.lines.proofs.Ends.{refused-line}
+use Rattle.closing.proofs.Ends.{refused-line}
 use borrow.Author.Needs.{needs}
-use Rattle.lines.proofs.put_refused.Statement.{statement}
-use Rattle.lines.proofs.put_refused.Tie as tie
+use Rattle.closing.proofs.put_refused.Statement.{statement}
+use Rattle.closing.proofs.put_refused.Tie as tie
 
 slice-aggregate-put-text : tie.Need-slice-aggregate-put-text
 slice-aggregate-put-text c = search needs

@@ -1,9 +1,9 @@
--- `lines::put_leader` meets its contract: the letter and the word, or the line of the card.
+-- `closing::put_leader` meets its contract: the letter and the word, or the line of the card.
 -- Assumes nothing.
-use Rattle.lines.proofs.Ends.{none-line, leader-line}
+use Rattle.closing.proofs.Ends.{none-line, leader-line}
 use borrow.Author.Needs.{needs}
-use Rattle.lines.proofs.put_leader.Statement.{statement}
-use Rattle.lines.proofs.put_leader.Tie as tie
+use Rattle.closing.proofs.put_leader.Statement.{statement}
+use Rattle.closing.proofs.put_leader.Tie as tie
 
 enum-known-leader : tie.Need-enum-known-leader
 enum-known-leader c = search needs
