@@ -26,7 +26,8 @@ use Rattle.scenario.specs.declared.Planned.the-variants as planned
 use Rattle.scenario.specs.Plan.{planOf}
 use Rattle.scenario.specs.Order.{Fuller, Faster, plan-faster}
 use Rattle.fields.specs.declared.Fields.{Fields}
-use Rattle.fields.specs.Layout.{byteAt, twoAt, fourAt, fieldsOf}
+use Rattle.buffer.specs.Numbers.{byteAt, twoAt, fourAt}
+use Rattle.fields.specs.Layout.{fieldsOf}
 use Rattle.form.specs.declared.StateByte.the-variants as stateByte
 use Rattle.form.specs.declared.GroundByte.the-variants as groundByte
 use Rattle.meaning.specs.declared.FlammableCard.{FlammableCard}

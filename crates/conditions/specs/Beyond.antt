@@ -17,12 +17,13 @@ use Rattle.search.specs.PlaceLaws.{look-listed, every-at}
 use Rattle.units.specs.declared.Reading.{Reading}
 use Rattle.units.specs.declared.Reading.the-variants as reading
 use Rattle.dispersion.specs.declared.Ground.{Ground}
-use Rattle.dispersion.specs.Printed.{Range}
-use Rattle.dispersion.specs.Rules.{inUse, larger, closest, closestRow, closestColumn, fromColumn, thousandths, lastOf, mileLimit, answered, byRow, byRange, past, holding, distance, markOf}
+use Rattle.rules.specs.Printed.{Range}
+use Rattle.rules.specs.Rules.{inUse, larger, closest, closestRow, closestColumn, fromColumn, thousandths, lastOf, mileLimit, answered, byRow, byRange, past, holding, distance, markOf}
 use Rattle.dispersion.specs.Tables.{Table, ranges, grid, lines, unprinted, tables, rateOf, entryOf, readIn, readingOf}
-use Rattle.dispersion.specs.Cuts.{cuts, cutsFrom, climbs, climbsFrom, uppers}
-use Rattle.dispersion.specs.Closest.{closest-by-cuts}
-use Rattle.dispersion.specs.Laws.{inOrder, in-order, never-past}
+use Rattle.rules.specs.Cuts.{cuts, cutsFrom, climbs, climbsFrom, uppers}
+use Rattle.rules.specs.Closest.{closest-by-cuts}
+use Rattle.dispersion.specs.Laws.{inOrder, in-order}
+use Rattle.rules.specs.Laws.{never-past}
 use Rattle.blast.specs.Printed13.{quantities, table13}
 use Rattle.blast.specs.Blast.{casOf, rowIn, rowOf, entryAt, isFlammable, blastReading}
 use Rattle.blast.specs.Laws.{entry-in, entry-out}

@@ -25,22 +25,24 @@ use Rattle.scenario.specs.declared.Planned.{Planned}
 use Rattle.scenario.specs.declared.Planned.the-variants as planned
 use Rattle.scenario.specs.Plan.{planOf}
 use Rattle.fields.specs.declared.Fields.{Fields}
-use Rattle.fields.specs.Layout.{byteAt, fieldsOf}
+use Rattle.buffer.specs.Numbers.{byteAt}
+use Rattle.fields.specs.Layout.{fieldsOf}
 use Rattle.refusals.specs.declared.Refusal.{Refusal}
 use Rattle.refusals.specs.declared.Refusal.the-variants as refusal
-use Rattle.meaning.specs.declared.StateByte.{StateByte}
-use Rattle.meaning.specs.declared.StateByte.the-variants as stateByte
-use Rattle.meaning.specs.declared.GroundByte.{GroundByte}
-use Rattle.meaning.specs.declared.GroundByte.the-variants as groundByte
-use Rattle.meaning.specs.declared.Held.{Held}
-use Rattle.meaning.specs.declared.Held.the-variants as held
-use Rattle.meaning.specs.declared.Standing.{Standing}
-use Rattle.meaning.specs.declared.Shape.{Shape}
-use Rattle.meaning.specs.declared.Shape.the-variants as shape
+use Rattle.form.specs.declared.StateByte.{StateByte}
+use Rattle.form.specs.declared.StateByte.the-variants as stateByte
+use Rattle.form.specs.declared.GroundByte.{GroundByte}
+use Rattle.form.specs.declared.GroundByte.the-variants as groundByte
+use Rattle.form.specs.declared.Held.{Held}
+use Rattle.form.specs.declared.Held.the-variants as held
+use Rattle.form.specs.declared.Standing.{Standing}
+use Rattle.form.specs.declared.Shape.{Shape}
+use Rattle.form.specs.declared.Shape.the-variants as shape
 use Rattle.meaning.specs.declared.Bounds.the-variants as bounds
 use Rattle.meaning.specs.declared.Meaning.the-variants as meaning
-use Rattle.meaning.specs.Reading.{stateOf, groundOf, heldOf, heatFits, shapedHeat, shapedHeld, shapedState, blank, shapedBlank, shapeOf, badNumber, badPounds, badArea, badWall, badHeat, signed, boundsIf, boundsOf, toxicBounded, isListed, meaningIf, toxicMeaning, flammableOf, shaped, meaningOf}
-use Rattle.meaning.specs.Inverse.{Stands, toxic-shape, flammable-shape}
+use Rattle.form.specs.Form.{stateOf, groundOf, heldOf, heatFits, shapedHeat, shapedHeld, shapedState, shapedBlank, shapeOf, blank}
+use Rattle.meaning.specs.Reading.{badNumber, badPounds, badArea, badWall, badHeat, signed, boundsIf, boundsOf, toxicBounded, isListed, meaningIf, toxicMeaning, flammableOf, shaped, meaningOf}
+use Rattle.form.specs.Inverse.{Stands, toxic-shape, flammable-shape}
 use Rattle.card.specs.declared.Answered.{Answered}
 use Rattle.card.specs.declared.Answered.the-variants as answered
 use Rattle.card.specs.Answers.{readToxic, plannedAnswer, readFlammable, answerFor, answerOf}

@@ -9,7 +9,7 @@ use mathlib.Core.Logic.{_↔_}
 use Rattle.refusals.specs.declared.Refusal.{Refusal}
 use Rattle.refusals.specs.Numbers.{numberOf}
 use Rattle.farthest.specs.declared.Leaders.{Leaders}
-use Rattle.register.specs.declared.Outcome.the-variants as outcome
+use Rattle.walk.specs.declared.Outcome.the-variants as outcome
 use Rattle.register.specs.Register.{outcomeOf}
 use Rattle.conditions.specs.Conditions.{Condition, condition, only, ofRegister, ofCard, conditionsAt}
 use Rattle.conditions.specs.First.{holdsIn, Names}

@@ -16,24 +16,26 @@ use Rattle.exhibits.specs.PrintedB1.{b1}
 use Rattle.exhibits.specs.PrintedB2.{b2}
 use Rattle.exhibits.specs.Exhibits.{gasCas, liquidCas, factorsOf, toxicOf}
 use Rattle.dispersion.specs.declared.Ground.{Ground}
-use Rattle.dispersion.specs.Rules.{distance, inUse, larger, closest, closestColumn, fromColumn, thousandths, lastOf, past, markOf, mileLimit}
+use Rattle.rules.specs.Rules.{distance, inUse, larger, closest, closestColumn, fromColumn, thousandths, lastOf, past, markOf, mileLimit}
 use Rattle.dispersion.specs.Tables.{Table, ranges, grid, lines, unprinted, tables, rateOf, entryOf}
 use Rattle.blast.specs.Blast.{casOf}
 use Rattle.blast.specs.Printed13.{table13}
 use Rattle.scenario.specs.declared.ToxicCard.{ToxicCard}
 use Rattle.scenario.specs.declared.Planned.{Planned}
 use Rattle.scenario.specs.declared.Planned.the-variants as planned
-use Rattle.scenario.specs.Columns.{columns}
+use Rattle.factors.specs.Columns.{columns}
 use Rattle.scenario.specs.Plan.{planOf}
 use Rattle.fields.specs.declared.Fields.{Fields}
-use Rattle.fields.specs.Layout.{byteAt, fieldsOf}
+use Rattle.buffer.specs.Numbers.{byteAt}
+use Rattle.fields.specs.Layout.{fieldsOf}
 use Rattle.refusals.specs.declared.Refusal.{Refusal}
 use Rattle.refusals.specs.declared.Refusal.the-variants as refusal
 use Rattle.refusals.specs.Numbers.{numberOf}
-use Rattle.meaning.specs.declared.Standing.{Standing}
-use Rattle.meaning.specs.declared.Shape.{Shape}
-use Rattle.meaning.specs.declared.Shape.the-variants as shape
-use Rattle.meaning.specs.Reading.{shapeOf, badNumber, badPounds, badArea, badWall, badHeat, signed}
+use Rattle.form.specs.declared.Standing.{Standing}
+use Rattle.form.specs.declared.Shape.{Shape}
+use Rattle.form.specs.declared.Shape.the-variants as shape
+use Rattle.form.specs.Form.{shapeOf}
+use Rattle.meaning.specs.Reading.{badNumber, badPounds, badArea, badWall, badHeat, signed}
 use Rattle.header.specs.Header.{badLength, badVersion, badCount, badBuffer, countOf}
 use Rattle.ordering.specs.Claim.{cardAt}
 

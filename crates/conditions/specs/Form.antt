@@ -15,18 +15,20 @@ use Rattle.release.specs.declared.Containment.the-variants.{Open, Dike, Buildin
 use Rattle.scenario.specs.declared.State.{State}
 use Rattle.scenario.specs.declared.State.the-variants.{Gas, Pressurized, Refrigerated, Liquid}
 use Rattle.fields.specs.declared.Fields.{Fields}
-use Rattle.fields.specs.Layout.{byteAt, twoAt, fourAt, fieldsOf}
+use Rattle.buffer.specs.Numbers.{byteAt, twoAt, fourAt}
+use Rattle.fields.specs.Layout.{fieldsOf}
 use Rattle.refusals.specs.declared.Refusal.the-variants as refusal
-use Rattle.meaning.specs.declared.StateByte.{StateByte}
-use Rattle.meaning.specs.declared.StateByte.the-variants as stateByte
-use Rattle.meaning.specs.declared.GroundByte.{GroundByte}
-use Rattle.meaning.specs.declared.GroundByte.the-variants as groundByte
-use Rattle.meaning.specs.declared.Held.{Held}
-use Rattle.meaning.specs.declared.Held.the-variants as held
-use Rattle.meaning.specs.declared.Standing.{Standing}
-use Rattle.meaning.specs.declared.Shape.{Shape}
-use Rattle.meaning.specs.declared.Shape.the-variants as shape
-use Rattle.meaning.specs.Reading.{stateOf, groundOf, openOf, heldOf, heatFits, shapedHeat, shapedHeld, shapedState, blank, shapedBlank, shapeOf}
+use Rattle.form.specs.declared.StateByte.{StateByte}
+use Rattle.form.specs.declared.StateByte.the-variants as stateByte
+use Rattle.form.specs.declared.GroundByte.{GroundByte}
+use Rattle.form.specs.declared.GroundByte.the-variants as groundByte
+use Rattle.form.specs.declared.Held.{Held}
+use Rattle.form.specs.declared.Held.the-variants as held
+use Rattle.form.specs.declared.Standing.{Standing}
+use Rattle.form.specs.declared.Shape.{Shape}
+use Rattle.form.specs.declared.Shape.the-variants as shape
+use Rattle.form.specs.Form.{stateOf, groundOf, openOf, heldOf, heatFits, shapedHeat, shapedHeld, shapedState, shapedBlank, shapeOf, blank}
+
 use Rattle.conditions.specs.Conditions.{anyOf, unlisted, filled, badToxic, badFlammable, badForm}
 
 clash : {A : Type 0} → _≡_ {A = ℕ} 0 1 → A

@@ -23,7 +23,7 @@ use Rattle.exhibits.specs.declared.Liquid as liquids
 use Rattle.exhibits.specs.declared.Toxic.{Toxic}
 use Rattle.exhibits.specs.declared.Toxic.the-variants.{OfGas, OfLiquid, NotListed}
 use Rattle.exhibits.specs.Exhibits.{factorsOf, toxicOf}
-use Rattle.dispersion.specs.Rules.{larger, closest}
+use Rattle.rules.specs.Rules.{larger, closest}
 use Rattle.release.specs.declared.Containment.{Containment}
 use Rattle.release.specs.declared.Containment.the-variants.{Open, Dike, Building}
 use Rattle.release.specs.Pool.{beyondDike}
@@ -32,21 +32,24 @@ use Rattle.scenario.specs.declared.ToxicCard.{ToxicCard}
 use Rattle.scenario.specs.declared.Scenario.{Scenario}
 use Rattle.scenario.specs.declared.Planned.{Planned}
 use Rattle.scenario.specs.declared.Planned.the-variants as planned
-use Rattle.scenario.specs.declared.Column.{Column}
-use Rattle.scenario.specs.declared.Column.the-variants.{At25, At30, At35, At40, At45, At50, Above}
-use Rattle.scenario.specs.declared.Factors.{Factors}
-use Rattle.scenario.specs.declared.Factors.the-variants.{Read, Missing}
-use Rattle.scenario.specs.Plan.{columnOf, ofCell, vaporOf, poolOf, undiked, pooled, gasPlan, factored, liquidPlan, planFor, planOf}
-use Rattle.scenario.specs.Plan as plan
-use Rattle.scenario.specs.Columns.{columns, placeIn, closestFor, columns-closest, colder}
-use Rattle.fields.specs.Layout.{byteAt, twoAt, fourAt, fieldsOf}
-use Rattle.meaning.specs.declared.StateByte.{StateByte}
-use Rattle.meaning.specs.declared.StateByte.the-variants as stateByte
-use Rattle.meaning.specs.declared.Held.{Held}
-use Rattle.meaning.specs.declared.Held.the-variants as held
-use Rattle.meaning.specs.declared.Standing.{Standing}
-use Rattle.meaning.specs.Reading.{stateOf, openOf, heldOf, isListed, signed}
-use Rattle.meaning.specs.Inverse.{Stands}
+use Rattle.factors.specs.declared.Column.{Column}
+use Rattle.factors.specs.declared.Column.the-variants.{At25, At30, At35, At40, At45, At50, Above}
+use Rattle.factors.specs.declared.Factors.{Factors}
+use Rattle.factors.specs.declared.Factors.the-variants.{Read, Missing}
+use Rattle.scenario.specs.Plan.{vaporOf, poolOf, undiked, pooled, gasPlan, factored, liquidPlan, planFor, planOf}
+use Rattle.factors.specs.Factors.{ofCell, columnOf}
+use Rattle.factors.specs.Factors as tabled
+use Rattle.factors.specs.Columns.{columns, placeIn, closestFor, columns-closest, colder}
+use Rattle.buffer.specs.Numbers.{byteAt, twoAt, fourAt}
+use Rattle.fields.specs.Layout.{fieldsOf}
+use Rattle.form.specs.declared.StateByte.{StateByte}
+use Rattle.form.specs.declared.StateByte.the-variants as stateByte
+use Rattle.form.specs.declared.Held.{Held}
+use Rattle.form.specs.declared.Held.the-variants as held
+use Rattle.form.specs.declared.Standing.{Standing}
+use Rattle.form.specs.Form.{stateOf, openOf, heldOf}
+use Rattle.meaning.specs.Reading.{isListed, signed}
+use Rattle.form.specs.Inverse.{Stands}
 use Rattle.conditions.specs.Conditions.{anyOf, ofGas, ofLiquid, columnRead, cellsOf, cellRead, withoutData, aboveFifty, mismatched, cardFrom}
 use Rattle.conditions.specs.Form.{no-state}
 use Rattle.conditions.specs.Substances.{Seen, a-gas, a-liquid, neither, seen}
@@ -102,7 +105,7 @@ cell-missing lfa lfb NoData = refl
 abbrev cellsIn : Corrections → List Cell
 cellsIn c = Factor 100 ∷ c .at30 ∷ c .at35 ∷ c .at40 ∷ c .at45 ∷ c .at50 ∷ []
 
-column-missing : (l : liquids.Liquid) (k : Column) → (k ≡ Above → ⊥) → isMissing (plan.factorsOf l k) ≡ withoutData (getD (cellsIn (l .corrections)) (placeIn k) NoData)
+column-missing : (l : liquids.Liquid) (k : Column) → (k ≡ Above → ⊥) → isMissing (tabled.factorsOf l k) ≡ withoutData (getD (cellsIn (l .corrections)) (placeIn k) NoData)
 column-missing l At25 n = refl
 column-missing l At30 n = cell-missing (l .lfa) (l .lfb) (l .corrections .at30)
 column-missing l At35 n = cell-missing (l .lfa) (l .lfb) (l .corrections .at35)
@@ -117,11 +120,11 @@ place-read (pos t) e = column-closest t (ltb-false 500 t e)
 place-read (negsuc n) e = ap placeIn (colder n)
 
 -- a liquid's factors are missing exactly where the cell that is read is without data
-factors-missing : (l : liquids.Liquid) (t : ℤ) → isMissing (plan.factorsOf l (columnOf t)) ≡ both (not (ltZ (pos 500) t)) (withoutData (getD (cellsIn (l .corrections)) (columnRead t) NoData))
+factors-missing : (l : liquids.Liquid) (t : ℤ) → isMissing (tabled.factorsOf l (columnOf t)) ≡ both (not (ltZ (pos 500) t)) (withoutData (getD (cellsIn (l .corrections)) (columnRead t) NoData))
 factors-missing l t = go (ltZ (pos 500) t) refl
   where
-    go : (above : Bool) → ltZ (pos 500) t ≡ above → isMissing (plan.factorsOf l (columnOf t)) ≡ both (not above) (withoutData (getD (cellsIn (l .corrections)) (columnRead t) NoData))
-    go true e = ap (λ k. isMissing (plan.factorsOf l k)) (is-above t e)
+    go : (above : Bool) → ltZ (pos 500) t ≡ above → isMissing (tabled.factorsOf l (columnOf t)) ≡ both (not above) (withoutData (getD (cellsIn (l .corrections)) (columnRead t) NoData))
+    go true e = ap (λ k. isMissing (tabled.factorsOf l k)) (is-above t e)
     go false e =
         column-missing l (columnOf t) (not-above t e)
         ∙ ap (λ p. withoutData (getD (cellsIn (l .corrections)) p NoData)) (place-read t e)
@@ -210,7 +213,7 @@ gas-unfit (suc (suc (suc (suc (suc n))))) s dike cell card g e d =
     let z : _≡_ {A = ℕ} 0 1 = cc in
     clash z
 
-liquid-unfit : (b : ℕ) (s : State) (dike cell : Bool) (card : ToxicCard) (l : liquids.Liquid) → stateOf b ≡ stateByte.Is s → cell ≡ isMissing (plan.factorsOf l (columnOf (card .temperature))) → unfit false true b dike cell ≡ isMismatch (liquidPlan s card l)
+liquid-unfit : (b : ℕ) (s : State) (dike cell : Bool) (card : ToxicCard) (l : liquids.Liquid) → stateOf b ≡ stateByte.Is s → cell ≡ isMissing (tabled.factorsOf l (columnOf (card .temperature))) → unfit false true b dike cell ≡ isMismatch (liquidPlan s card l)
 unfolding stateOf among
 liquid-unfit zero s dike cell card l e d = let z : _≡_ {A = ℕ} 0 1 = cc in clash z
 liquid-unfit (suc zero) s dike cell card l e d = ap (λ x. isMismatch (liquidPlan x card l)) (state-is e)
@@ -218,7 +221,7 @@ liquid-unfit (suc (suc zero)) s dike cell card l e d = ap (λ x. isMismatch (liq
 liquid-unfit (suc (suc (suc zero))) s dike cell card l e d = ap (λ x. isMismatch (liquidPlan x card l)) (state-is e)
 liquid-unfit (suc (suc (suc (suc zero)))) s dike cell card l e d =
     last-of-three dike cell
-    ∙ (d ∙ (factored-missing (plan.factorsOf l (columnOf (card .temperature))) card l ∙ ap (λ x. isMismatch (liquidPlan x card l)) (state-is e)))
+    ∙ (d ∙ (factored-missing (tabled.factorsOf l (columnOf (card .temperature))) card l ∙ ap (λ x. isMismatch (liquidPlan x card l)) (state-is e)))
 liquid-unfit (suc (suc (suc (suc (suc n))))) s dike cell card l e d =
     let none : stateOf (suc (suc (suc (suc (suc n))))) ≡ stateByte.Unlisted = no-state (suc (suc (suc (suc (suc n))))) (omega arith) in
     let z : _≡_ {A = ℕ} 0 1 = cc in

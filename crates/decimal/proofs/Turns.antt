@@ -1,15 +1,16 @@
 -- What the loops and the calls in a row of `src/lib.rt` rest on: one turn of each loop, its end, and the texts put together.
 -- Assumes nothing.
 use Prim.Native.Nat.{ℕ, zero, suc, _+_, _-_, _/_, _%_, _^_, _≤_, _<_}
-use native.Mathlib.Nat.{add-zero, add-suc, not-suc-le-zero}
-use native.Mathlib.Numerals.{add-one}
+use native.Mathlib.Nat.{not-suc-le-zero}
 use native.Mathlib.Omega.{arith}
 use mathlib.Core.Path.{_≡_, refl, sym, ap, subst, _∙_}
 use mathlib.Core.List.{List, [], _∷_, _++_}
-use lib.ListN.{length, drop, getD, set, length-append, drop-of-length-le}
-use lib.Seq.{sets, set-comm, drop-cons}
-use Rattle.decimal.specs.Decimal.{padded, digits, fixed, Wrote}
-use Rattle.decimal.specs.Laws.{sets-append, joined, length-padded, digits-small, digits-more, digits-padded}
+use lib.ListN.{length, set, length-append}
+use lib.Seq.{sets, set-comm}
+use Rattle.buffer.specs.Wrote.{Wrote}
+use Rattle.buffer.specs.Laws.{sets-append, joined}
+use Rattle.decimal.specs.Decimal.{padded, digits, fixed}
+use Rattle.decimal.specs.Laws.{length-padded, digits-small, digits-more, digits-padded}
 
 -- a byte behind a text may as well be written before it
 set-behind : (s b : List ℕ) (at k v : ℕ) → at + length s ≤ k → set (sets b at s) k v ≡ sets (set b k v) at s
@@ -44,17 +45,6 @@ pub digit-end : (b : List ℕ) (at left n : ℕ) → left ≤ 0 → sets b at (p
 unfolding padded
 digit-end b at zero n h = refl
 digit-end b at (suc k) n h = absurd (not-suc-le-zero h)
-
--- a word is written from its first byte on
-pub word-start : (s b : List ℕ) (at : ℕ) → sets b at s ≡ sets b (at + 0) s
-word-start s b at = rw (add-zero at)
-
-pub word-turn : (s b : List ℕ) (at i : ℕ) → i < length s
-    → sets b (at + i) (drop i s) ≡ sets (set b (at + i) (getD s i 0)) (at + (i + 1)) (drop (i + 1) s)
-word-turn s b at i h = rw (drop-cons s i 0 h, add-one, add-suc)
-
-pub word-end : (s b : List ℕ) (at i : ℕ) → length s ≤ i → sets b (at + i) (drop i s) ≡ b
-word-end s b at i h = rw (drop-of-length-le s h)
 
 -- as many of the last digits as there are digits: the number
 pub counted : (n : ℕ) {before after : List ℕ} {at next count : ℕ} → count ≡ length (digits n)

@@ -1,13 +1,9 @@
--- How the listing writes a number as text, and what it is to write a text into a buffer. A text is a list of bytes in ASCII:
--- the digit d is 48 + d, and the dot is 46.
+-- How the listing writes a number as text. A text is a list of bytes in ASCII: the digit d is 48 + d, and the dot is 46.
 -- Assumes nothing.
 use Prim.Native.Nat.{ℕ, zero, suc, _+_, _-_, _*_, _/_, _%_, _^_, _≤_, _<_}
-use mathlib.Core.Path.{_≡_}
 use mathlib.Core.List.{List, [], _∷_, _++_}
 use mathlib.Core.Bool.{Bool, true, false}
 use lib.Dec.{ltb}
-use lib.ListN.{length}
-use lib.Seq.{sets}
 
 -- the last `count` digits of n, with zeros in front where n has fewer
 unfoldable pub padded : ℕ → ℕ → List ℕ
@@ -39,8 +35,3 @@ readFrom so-far (b ∷ rest) = readFrom (so-far * 10 + (b - 48)) rest
 abbrev pub AllDigits : List ℕ → Type 0
 AllDigits [] = Unit
 AllDigits (b ∷ rest) = (48 ≤ b) × (b < 58) × AllDigits rest
-
--- a buffer that held `before` holds `after`: the text stands from `at` on, up to `next`, and every other byte is as it was
-pub record Wrote (before after : List ℕ) (at next : ℕ) (text : List ℕ) : Type 0 where
-  pub place : next ≡ at + length text
-  pub bytes : after ≡ sets before at text

@@ -1,7 +1,7 @@
--- What callers use of the texts: they follow one another, they have their lengths, and they are right.
+-- What callers use of the texts: they have their lengths, and they are right.
 -- Assumes nothing.
 use Prim.Native.Nat.{ℕ, zero, suc, _+_, _*_, _-_, _/_, _%_, _^_, _≤_, _<_}
-use native.Mathlib.Nat.{add-zero, zero-add, mod-eq-of-lt, mod-lt, one-le-pow, div-add-mod', div-le-self, lt-of-le-of-lt, not-suc-le-zero}
+use native.Mathlib.Nat.{mod-eq-of-lt, mod-lt, one-le-pow, div-add-mod', div-le-self, lt-of-le-of-lt, not-suc-le-zero}
 use native.Mathlib.Numerals.{add-one}
 use native.Mathlib.Omega.{arith}
 use mathlib.Core.Path.{_≡_, refl, sym, ap, _∙_}
@@ -9,33 +9,9 @@ use mathlib.Core.List.{List, [], _∷_, _++_}
 use mathlib.Core.Bool.{Bool, true, false}
 use mathlib.Core.Logic.{_⊎_, inl, inr}
 use lib.Dec.{ltb}
-use lib.ListN.{length, take, drop, getD, set, length-append, List·getD-append}
-use lib.Seq.{sets, sets-eq, take-at, drop-at}
+use lib.ListN.{length, getD, length-append, List·getD-append}
 use borrow.Author.Tests.{lt-ltb, le-ltb, ltb-true, ltb-false}
-use Rattle.decimal.specs.Decimal.{padded, digitsWithin, digits, fixed, readFrom, AllDigits, Wrote}
-
--- ---- writing one text after another
-
--- two texts one after the other are their joint text
-pub sets-append : (s t b : List ℕ) (at : ℕ) → sets (sets b at s) (at + length s) t ≡ sets b at (s ++ t)
-sets-append [] t b at = ap (λ (k : ℕ). sets b k t) (add-zero at)
-sets-append (x ∷ s) t b at =
-    let on : at + suc (length s) ≡ suc at + length s = omega arith in
-    ap (λ (k : ℕ). sets (sets (set b at x) (suc at) s) k t) on ∙ sets-append s t (set b at x) (suc at)
-
--- the rule for a chain of calls that write: each begins where the one before it ended
-pub joined : {b₀ b₁ b₂ s t : List ℕ} {at mid end : ℕ}
-    → Wrote b₀ b₁ at mid s → Wrote b₁ b₂ mid end t → Wrote b₀ b₂ at end (s ++ t)
-joined {b₀} {b₁} {b₂} {s} {t} {at} {mid} {end} first second = record {
-  place = simp length-append (omega (arith, first .place, second .place));
-  bytes =
-      second .bytes ∙ ap (λ (b : List ℕ). sets b mid t) (first .bytes)
-      ∙ ap (λ (k : ℕ). sets (sets b₀ at s) k t) (first .place) ∙ sets-append s t b₀ at;
-}
-
--- a text that fits, written from the start: the text, and what stood behind it
-pub written-first : (t b : List ℕ) → length t ≤ length b → sets b 0 t ≡ t ++ drop (length t) b
-written-first t b fits = sets-eq t b 0 (simp zero-add fits) ∙ simp zero-add
+use Rattle.decimal.specs.Decimal.{padded, digitsWithin, digits, fixed, readFrom, AllDigits}
 
 -- ---- the digits of a number
 
@@ -190,19 +166,6 @@ pub fixed-read : (places n : ℕ)
 fixed-read places n =
     let decimals = padded-read places (n % 10 ^ places) (mod-lt n (one-le-pow places 10 (omega arith))) in
     rw (digits-read (n / 10 ^ places), decimals) (div-add-mod' n (10 ^ places))
-
--- ---- what a caller reads of a buffer that was written from its start
-
--- up to the answered position it is the text, and from there on it is as it was
-pub written-whole : {before after text : List ℕ} {next : ℕ} → Wrote before after 0 next text → next ≤ length before
-    → (take next after ≡ text) × (drop next after ≡ drop next before)
-written-whole {before} {after} {text} {next} w fits =
-    let same : length text ≡ next = omega (arith, w .place) in
-    let whole : after ≡ text ++ drop next before =
-    w .bytes ∙ written-first text before (omega arith) ∙ ap (λ (k : ℕ). text ++ drop k before) same in (
-      ap (take next) whole ∙ take-at text (drop next before) next same,
-      ap (drop next) whole ∙ drop-at text (drop next before) next same,
-    )
 
 -- ---- numbers of the listing that document 01 prints, and the largest number of 64 bits
 

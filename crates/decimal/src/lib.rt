@@ -1,10 +1,11 @@
-// Writes numbers and words as text into a lent buffer, from a position on, and answers the position
+// Writes numbers as text into a lent buffer, from a position on, and answers the position
 // behind the text. The caller sees to the room; every byte outside the text stays as it was.
 ghost use mathlib.Core.Path.{_≡_};
 ghost use Prim.Native.Nat.{_+_, _≤_};
 ghost use mathlib.Core.List.{[], _∷_, _++_};
 ghost use lib.ListN.{length};
-ghost use Rattle.decimal.specs.Decimal.{padded, digits, fixed, Wrote};
+ghost use Rattle.buffer.specs.Wrote.{Wrote};
+ghost use Rattle.decimal.specs.Decimal.{padded, digits, fixed};
 
 // How many digits n has.
 fn digit_count(n: u64) -> usize
@@ -46,15 +47,6 @@ pub fn put_number(out: &mut [u8], at: usize, n: u64) -> usize
     put_padded(out, at, count, n)
 }
 
-// One byte, as the spaces and line feeds between the numbers.
-pub fn put_byte(out: &mut [u8], at: usize, b: u8) -> usize
-    requires { ⌜ at + 1 ≤ length (now out) ⌝ }
-    ensures { λ r. ⌜ Wrote (now (out .entry)) (now (out .exit)) at r (b ∷ []) ⌝ }
-{
-    out[at] = b;
-    at + 1
-}
-
 // A number and the byte behind it: a space, or the line feed that ends the line.
 pub fn put_number_then(out: &mut [u8], at: usize, n: u64, b: u8) -> usize
     requires { ⌜ at + 21 ≤ length (now out) ⌝ }
@@ -62,20 +54,7 @@ pub fn put_number_then(out: &mut [u8], at: usize, n: u64, b: u8) -> usize
     ensures { λ r. ⌜ r ≤ at + 21 ⌝ }
 {
     let behind = put_number(out, at, n);
-    put_byte(out, behind, b)
-}
-
-// A word.
-pub fn put_text(out: &mut [u8], at: usize, text: &[u8]) -> usize
-    requires { ⌜ at + length (now text) ≤ length (now out) ⌝ }
-    ensures { λ r. ⌜ Wrote (now (out .entry)) (now (out .exit)) at r (now (text .entry)) ⌝ }
-{
-    let mut i = 0;
-    while i < text.len() {
-        out[at + i] = text[i];
-        i += 1;
-    }
-    at + text.len()
+    buffer::put_byte(out, behind, b)
 }
 
 // Hundredths, with "two decimals".
@@ -85,7 +64,7 @@ pub fn put_fixed2(out: &mut [u8], at: usize, n: u64) -> usize
     ensures { λ r. ⌜ r ≤ at + 24 ⌝ }
 {
     let dot = put_number(out, at, n / 100);
-    let rest = put_byte(out, dot, b'.');
+    let rest = buffer::put_byte(out, dot, b'.');
     put_padded(out, rest, 2, n % 100)
 }
 
@@ -96,6 +75,6 @@ pub fn put_fixed3(out: &mut [u8], at: usize, n: u64) -> usize
     ensures { λ r. ⌜ r ≤ at + 24 ⌝ }
 {
     let dot = put_number(out, at, n / 1000);
-    let rest = put_byte(out, dot, b'.');
+    let rest = buffer::put_byte(out, dot, b'.');
     put_padded(out, rest, 3, n % 1000)
 }

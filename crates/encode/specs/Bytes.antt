@@ -1,31 +1,15 @@
 -- The bytes of an answer, as they stand in the answer buffer.
 -- Assumes nothing.
-use Prim.Native.Nat.{ℕ, _+_, _*_, _/_, _%_}
+use Prim.Native.Nat.{ℕ, _+_}
 use mathlib.Core.Path.{_≡_}
-use mathlib.Core.List.{List, [], _∷_, _++_}
-use Rattle.fields.specs.Layout.{byteAt, twoAt, fourAt}
+use mathlib.Core.List.{List, _∷_, _++_}
+use Rattle.buffer.specs.Numbers.{byteAt, twoAt, fourAt, eightAt, twoBytes, fourBytes, eightBytes}
 use Rattle.card.specs.declared.Answer.{Answer}
-
--- "Big-endian": the higher byte first
-unfoldable pub twoBytes : ℕ → List ℕ
-twoBytes n = (n / 256 % 256) ∷ (n % 256) ∷ []
-
--- "Big-endian": the higher half first
-unfoldable pub fourBytes : ℕ → List ℕ
-fourBytes n = twoBytes (n / 65_536) ++ twoBytes (n % 65_536)
-
--- "Big-endian": the higher half first, as with four
-unfoldable pub eightBytes : ℕ → List ℕ
-eightBytes n = fourBytes (n / 4_294_967_296) ++ fourBytes (n % 4_294_967_296)
 
 -- "Sixteen bytes a card: card number 4, route 1, table 1, rate 8, distance 2."
 unfoldable pub answerBytes : Answer → List ℕ
 answerBytes a =
     fourBytes (a .number) ++ (a .route ∷ a .table ∷ (eightBytes (a .rate .0) ++ twoBytes (a .distance .0)))
-
--- what a reader makes of eight bytes
-abbrev pub eightAt : List ℕ → ℕ → ℕ
-eightAt bytes i = fourAt bytes i * 4_294_967_296 + fourAt bytes (i + 4)
 
 -- a reader of sixteen bytes from `at` on finds this answer
 pub record AnswerAt (bytes : List ℕ) (at : ℕ) (a : Answer) : Type 0 where

@@ -1,20 +1,10 @@
 -- "The register and its cards": the bytes of a card as numbers. A byte past the end reads 0, so that every list of bytes
 -- has fields; a register hands each card its own 24.
 -- Assumes nothing.
-use Prim.Native.Nat.{ℕ, _+_, _*_}
+use Prim.Native.Nat.{ℕ}
 use mathlib.Core.List.{List}
-use lib.ListN.{getD}
+use Rattle.buffer.specs.Numbers.{byteAt, twoAt, fourAt}
 use Rattle.fields.specs.declared.Fields.{Fields}
-
-abbrev pub byteAt : List ℕ → ℕ → ℕ
-byteAt bytes i = getD bytes i 0
-
--- "Big-endian."
-abbrev pub twoAt : List ℕ → ℕ → ℕ
-twoAt bytes i = byteAt bytes i * 256 + byteAt bytes (i + 1)
-
-abbrev pub fourAt : List ℕ → ℕ → ℕ
-fourAt bytes i = twoAt bytes i * 65_536 + twoAt bytes (i + 2)
 
 -- 0: kind. 1: state. 2: ground. 3: containment. 4 to 7: CAS number. 8 to 11: pounds. 12 to 15: dike or floor area.
 -- 16, 17: wall. 18, 19: temperature, still unsigned. 20 to 23: card number.

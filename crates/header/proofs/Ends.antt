@@ -9,7 +9,7 @@ use lib.Dec.{ltb, eqb}
 use lib.ListN.{length}
 use borrow.Author.Tests.{lt-ltb, le-ltb, ltb-false, eqb-true, not-false}
 use Rattle.search.specs.Places.{either}
-use Rattle.fields.specs.Layout.{byteAt, twoAt, fourAt}
+use Rattle.buffer.specs.Numbers.{byteAt, twoAt, fourAt}
 use Rattle.refusals.specs.declared.Refusal.the-variants as refusal
 use Rattle.header.specs.declared.Header.the-variants as header
 use Rattle.header.specs.Header.{badLength, badVersion, badCount, badBuffer, headerOf, countOf, Fitting}

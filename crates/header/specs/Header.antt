@@ -7,7 +7,7 @@ use mathlib.Core.List.{List}
 use lib.Dec.{ltb, eqb}
 use lib.ListN.{length}
 use Rattle.search.specs.Places.{either}
-use Rattle.fields.specs.Layout.{byteAt, twoAt, fourAt}
+use Rattle.buffer.specs.Numbers.{byteAt, twoAt, fourAt}
 use Rattle.refusals.specs.declared.Refusal.{Refusal}
 use Rattle.refusals.specs.declared.Refusal.the-variants as refusal
 use Rattle.header.specs.declared.Header.{Header}

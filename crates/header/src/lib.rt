@@ -15,20 +15,20 @@ fn bad_length(register: &[u8]) -> bool
     if register.len() < 7 {
         return true;
     }
-    let length = fields::four(register, 0) as usize;
+    let length = buffer::four(register, 0) as usize;
     length != register.len()
 }
 
 fn bad_version(register: &[u8]) -> bool
     ensures { λ r. ⌜ r ≡ badVersion (now (register .entry)) ⌝ }
 {
-    fields::byte(register, 4) != 1
+    buffer::byte(register, 4) != 1
 }
 
 fn bad_count(register: &[u8]) -> bool
     ensures { λ r. ⌜ r ≡ badCount (now (register .entry)) ⌝ }
 {
-    let count = fields::two(register, 5) as usize;
+    let count = buffer::two(register, 5) as usize;
     if 2000 < count {
         return true;
     }
@@ -49,7 +49,7 @@ pub fn header_of(register: &[u8], room: usize) -> Header
     if bad_count(register) {
         return Header::Refused(Refusal::Count);
     }
-    let count = fields::two(register, 5) as usize;
+    let count = buffer::two(register, 5) as usize;
     if room < 16 * count {
         return Header::Refused(Refusal::Buffer);
     }

@@ -1,15 +1,13 @@
--- One law for each line: its parts, written one after the other, are the line.
+-- One law for each part of a card's line: what is written one after the other is the part.
 -- Assumes nothing.
 use Prim.Native.Nat.{ℕ}
-use mathlib.Core.Path.{_≡_, sym, subst}
+use mathlib.Core.Path.{_≡_, subst}
 use mathlib.Core.List.{List, [], _∷_, _++_}
-use Rattle.units.specs.declared.Miles.{Miles}
 use Rattle.card.specs.declared.Answer.{Answer}
-use Rattle.decimal.specs.Decimal.{digits, fixed, Wrote}
-use Rattle.decimal.specs.Laws.{joined}
-use Rattle.farthest.specs.declared.Farthest.{Farthest}
-use Rattle.farthest.specs.declared.Farthest.the-variants as farthest
-use Rattle.lines.specs.Lines.{spaced, ended, milesText, ratesText, numbersText, cardLine, leaderLine, refusedLine}
+use Rattle.buffer.specs.Wrote.{Wrote}
+use Rattle.decimal.specs.Decimal.{digits, fixed}
+use Rattle.buffer.specs.Laws.{joined}
+use Rattle.lines.specs.Lines.{spaced, ended, milesText, ratesText, numbersText, cardLine}
 
 module _ {b₀ b₁ b₂ : List ℕ} {at mid end : ℕ} where
   pub miles-line : (n m : ℕ) → n ≡ m → Wrote b₀ b₁ at mid (fixed 2 n) → Wrote b₁ b₂ mid end (10 ∷ []) → Wrote b₀ b₂ at end (milesText m)
@@ -20,11 +18,6 @@ module _ {b₀ b₁ b₂ : List ℕ} {at mid end : ℕ} where
       → Wrote b₁ b₂ mid end (ratesText (a .rate .0) (a .distance .0)) → Wrote b₀ b₂ at end (cardLine a)
   unfolding cardLine
   card-line a numbers rates = joined numbers rates
-
-  pub none-line : (letter : ℕ) (f : Farthest) → f ≡ farthest.None → Wrote b₀ b₁ at mid (letter ∷ [])
-      → Wrote b₁ b₂ mid end (32 ∷ 110 ∷ 111 ∷ 110 ∷ 101 ∷ 10 ∷ []) → Wrote b₀ b₂ at end (leaderLine letter f)
-  unfolding leaderLine
-  none-line letter f e start word = subst (λ (g : Farthest). Wrote b₀ b₂ at end (leaderLine letter g)) (sym e) (joined start word)
 
 module _ {b₀ b₁ b₂ b₃ : List ℕ} {at second third end : ℕ} where
   pub numbers-line : (number route table : ℕ) → Wrote b₀ b₁ at second (spaced (digits number)) → Wrote b₁ b₂ second third (spaced (digits route))
@@ -37,22 +30,3 @@ module _ {b₀ b₁ b₂ b₃ : List ℕ} {at second third end : ℕ} where
   unfolding ratesText
   rates-line n rate miles e first space last =
       subst (λ (k : ℕ). Wrote b₀ b₃ at end (spaced (fixed 3 k) ++ milesText miles)) e (joined (joined first space) last)
-
-module _ {b₀ b₁ b₂ b₃ b₄ : List ℕ} {at second third fourth end : ℕ} where
-  pub leading-line : (letter number : ℕ) (d : Miles) → Wrote b₀ b₁ at second (letter ∷ []) → Wrote b₁ b₂ second third (32 ∷ [])
-      → Wrote b₂ b₃ third fourth (spaced (digits number)) → Wrote b₃ b₄ fourth end (milesText (d .0))
-      → Wrote b₀ b₄ at end (leaderLine letter (farthest.Card number d))
-  unfolding leaderLine
-  leading-line letter number d start space card miles = joined start (joined space (joined card miles))
-
-  pub refused-line : (number place : ℕ) → Wrote b₀ b₁ at second (114 ∷ 101 ∷ 102 ∷ 117 ∷ 115 ∷ 101 ∷ 100 ∷ 32 ∷ [])
-      → Wrote b₁ b₂ second third (digits number) → Wrote b₂ b₃ third fourth (32 ∷ 97 ∷ 116 ∷ 32 ∷ [])
-      → Wrote b₃ b₄ fourth end (ended (digits place)) → Wrote b₀ b₄ at end (refusedLine number place)
-  unfolding refusedLine
-  refused-line number place word refusal word′ last = joined word (joined refusal (joined word′ last))
-
--- the line of a class that has a card is that card's
-pub leader-line : {before after : List ℕ} {at end : ℕ} (letter number : ℕ) (d : Miles) (f : Farthest) → f ≡ farthest.Card number d
-    → Wrote before after at end (leaderLine letter (farthest.Card number d)) → Wrote before after at end (leaderLine letter f)
-leader-line {before} {after} {at} {end} letter number d f e line =
-    subst (λ (g : Farthest). Wrote before after at end (leaderLine letter g)) (sym e) line

@@ -1,24 +1,18 @@
--- The five lines that document 01 prints for its three cards, and one of each other kind, byte by byte.
+-- The lines that document 01 prints for its three cards, byte by byte.
 -- Assumes nothing.
 use Prim.Native.Nat.{ℕ}
 use mathlib.Core.Path.{_≡_, refl}
 use mathlib.Core.List.{List, [], _∷_}
 use Rattle.card.specs.declared.Class.the-variants as class
 use Rattle.decimal.specs.Decimal.{padded, digitsWithin, digits, fixed}
-use Rattle.farthest.specs.declared.Farthest.the-variants as farthest
-use Rattle.lines.specs.Lines.{milesText, ratesText, numbersText, cardLine, leaderLine, refusedLine, tooLong}
+use Rattle.lines.specs.Lines.{milesText, ratesText, numbersText, cardLine}
 
 -- what the definitions give
 abbrev lines : List (List ℕ)
 lines =
     (cardLine (record { number = 11; class = class.Toxic; route = 1; table = 11; rate = record { 0 = 250000 }; distance = record { 0 = 150 } })) ∷
     (cardLine (record { number = 12; class = class.Toxic; route = 2; table = 8; rate = record { 0 = 10220 }; distance = record { 0 = 180 } })) ∷
-    (cardLine (record { number = 13; class = class.Flammable; route = 3; table = 13; rate = record { 0 = 0 }; distance = record { 0 = 20 } })) ∷
-    (leaderLine 84 (farthest.Card 12 (record { 0 = 180 }))) ∷
-    (leaderLine 70 (farthest.Card 13 (record { 0 = 20 }))) ∷
-    (leaderLine 84 farthest.None) ∷
-    (refusedLine 10 0) ∷
-    tooLong ∷ []
+    (cardLine (record { number = 13; class = class.Flammable; route = 3; table = 13; rate = record { 0 = 0 }; distance = record { 0 = 20 } })) ∷ []
 
 -- what is to be printed
 abbrev printed : List (List ℕ)
@@ -28,18 +22,8 @@ printed =
     -- 12 2 8 10.220 1.80
     (49 ∷ 50 ∷ 32 ∷ 50 ∷ 32 ∷ 56 ∷ 32 ∷ 49 ∷ 48 ∷ 46 ∷ 50 ∷ 50 ∷ 48 ∷ 32 ∷ 49 ∷ 46 ∷ 56 ∷ 48 ∷ 10 ∷ []) ∷
     -- 13 3 13 0.000 0.20
-    (49 ∷ 51 ∷ 32 ∷ 51 ∷ 32 ∷ 49 ∷ 51 ∷ 32 ∷ 48 ∷ 46 ∷ 48 ∷ 48 ∷ 48 ∷ 32 ∷ 48 ∷ 46 ∷ 50 ∷ 48 ∷ 10 ∷ []) ∷
-    -- T 12 1.80
-    (84 ∷ 32 ∷ 49 ∷ 50 ∷ 32 ∷ 49 ∷ 46 ∷ 56 ∷ 48 ∷ 10 ∷ []) ∷
-    -- F 13 0.20
-    (70 ∷ 32 ∷ 49 ∷ 51 ∷ 32 ∷ 48 ∷ 46 ∷ 50 ∷ 48 ∷ 10 ∷ []) ∷
-    -- T none
-    (84 ∷ 32 ∷ 110 ∷ 111 ∷ 110 ∷ 101 ∷ 10 ∷ []) ∷
-    -- refused 10 at 0
-    (114 ∷ 101 ∷ 102 ∷ 117 ∷ 115 ∷ 101 ∷ 100 ∷ 32 ∷ 49 ∷ 48 ∷ 32 ∷ 97 ∷ 116 ∷ 32 ∷ 48 ∷ 10 ∷ []) ∷
-    -- too long
-    (116 ∷ 111 ∷ 111 ∷ 32 ∷ 108 ∷ 111 ∷ 110 ∷ 103 ∷ 10 ∷ []) ∷ []
+    (49 ∷ 51 ∷ 32 ∷ 51 ∷ 32 ∷ 49 ∷ 51 ∷ 32 ∷ 48 ∷ 46 ∷ 48 ∷ 48 ∷ 48 ∷ 32 ∷ 48 ∷ 46 ∷ 50 ∷ 48 ∷ 10 ∷ []) ∷ []
 
 pub as-printed : lines ≡ printed
-unfolding padded digitsWithin digits fixed milesText ratesText numbersText cardLine leaderLine refusedLine
+unfolding padded digitsWithin digits fixed milesText ratesText numbersText cardLine
 as-printed = refl

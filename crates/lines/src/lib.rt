@@ -1,23 +1,22 @@
-// The lines of a listing, written as text into a lent buffer from a position on. Each function answers the position
-// behind its line; every byte outside the line stays as it was.
+// A card's line of a listing, written as text into a lent buffer from a position on. Each function answers the position
+// behind its text; every byte outside the text stays as it was.
 use card::Answer;
-use farthest::Farthest;
 use units::Miles;
 use units::PoundsPerMinute;
 ghost use Prim.Native.Nat.{_+_, _≤_};
 ghost use lib.ListN.{length};
-ghost use Rattle.decimal.specs.Decimal.{Wrote};
-ghost use Rattle.lines.specs.Lines.{milesText, ratesText, numbersText, cardLine, leaderLine, refusedLine, tooLong};
+ghost use Rattle.buffer.specs.Wrote.{Wrote};
+ghost use Rattle.lines.specs.Lines.{milesText, ratesText, numbersText, cardLine};
 
 // A distance and the line feed: the end of a card's line and of a leader's.
-fn put_miles(out: &mut [u8], at: usize, distance: Miles) -> usize
+pub fn put_miles(out: &mut [u8], at: usize, distance: Miles) -> usize
     requires { ⌜ at + 32 ≤ length (now out) ⌝ }
     ensures { λ r. ⌜ Wrote (now (out .entry)) (now (out .exit)) at r (milesText (distance .0)) ⌝ }
     ensures { λ r. ⌜ r ≤ at + 32 ⌝ }
 {
     let miles = dispersion::hundredths(distance);
     let behind = decimal::put_fixed2(out, at, miles as u64);
-    decimal::put_byte(out, behind, b'\n')
+    buffer::put_byte(out, behind, b'\n')
 }
 
 // The second half of a card's line.
@@ -27,7 +26,7 @@ fn put_rates(out: &mut [u8], at: usize, rate: PoundsPerMinute, distance: Miles) 
     ensures { λ r. ⌜ r ≤ at + 64 ⌝ }
 {
     let behind = decimal::put_fixed3(out, at, release::thousandths(rate));
-    let next = decimal::put_byte(out, behind, b' ');
+    let next = buffer::put_byte(out, behind, b' ');
     put_miles(out, next, distance)
 }
 
@@ -52,50 +51,4 @@ pub fn put_card_line(out: &mut [u8], at: usize, answer: Answer) -> usize
     let distance = answer.distance;
     let half = put_numbers(out, at, answer.number, answer.route, answer.table);
     put_rates(out, half, rate, distance)
-}
-
-// The line of a class that has a card.
-fn put_leading(out: &mut [u8], at: usize, letter: u8, number: u32, distance: Miles) -> usize
-    requires { ⌜ at + 64 ≤ length (now out) ⌝ }
-    ensures { λ r. ⌜ Wrote (now (out .entry)) (now (out .exit)) at r (leaderLine letter (Farthest.Card number distance)) ⌝ }
-    ensures { λ r. ⌜ r ≤ at + 64 ⌝ }
-{
-    let second = decimal::put_byte(out, at, letter);
-    let third = decimal::put_byte(out, second, b' ');
-    let last = decimal::put_number_then(out, third, number as u64, b' ');
-    put_miles(out, last, distance)
-}
-
-// The line of a class, which begins with the class's letter.
-pub fn put_leader(out: &mut [u8], at: usize, letter: u8, leader: Farthest) -> usize
-    requires { ⌜ at + 64 ≤ length (now out) ⌝ }
-    ensures { λ r. ⌜ Wrote (now (out .entry)) (now (out .exit)) at r (leaderLine letter leader) ⌝ }
-    ensures { λ r. ⌜ r ≤ at + 64 ⌝ }
-{
-    let Farthest::Card(number, distance) = leader else {
-        let word = decimal::put_byte(out, at, letter);
-        return decimal::put_text(out, word, b" none\n");
-    };
-    put_leading(out, at, letter, number, distance)
-}
-
-// The one line of a register that is sent back.
-pub fn put_refused(out: &mut [u8], at: usize, number: u8, place: u32) -> usize
-    requires { ⌜ at + 64 ≤ length (now out) ⌝ }
-    ensures { λ r. ⌜ Wrote (now (out .entry)) (now (out .exit)) at r (refusedLine number place) ⌝ }
-    ensures { λ r. ⌜ r ≤ at + 64 ⌝ }
-{
-    let second = decimal::put_text(out, at, b"refused ");
-    let third = decimal::put_number(out, second, number as u64);
-    let last = decimal::put_text(out, third, b" at ");
-    decimal::put_number_then(out, last, place as u64, b'\n')
-}
-
-// The one line of an input that is too long.
-pub fn put_too_long(out: &mut [u8], at: usize) -> usize
-    requires { ⌜ at + 64 ≤ length (now out) ⌝ }
-    ensures { λ r. ⌜ Wrote (now (out .entry)) (now (out .exit)) at r tooLong ⌝ }
-    ensures { λ r. ⌜ r ≤ at + 64 ⌝ }
-{
-    decimal::put_text(out, at, b"too long\n")
 }

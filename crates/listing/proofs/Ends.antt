@@ -1,6 +1,6 @@
 -- One law for each return: what was written is what is to be listed.
 -- Assumes nothing.
-use Prim.Native.Nat.{ℕ, _-_, _≤_, _<_}
+use Prim.Native.Nat.{ℕ, _-_, _*_, _≤_, _<_}
 use native.Mathlib.Omega.{arith}
 use mathlib.Core.Path.{_≡_, _∙_, refl, ap, sym, subst}
 use mathlib.Core.List.{List, _++_}
@@ -14,12 +14,12 @@ use Rattle.farthest.specs.declared.Leaders.{Leaders}
 use Rattle.header.specs.declared.Header.{Header}
 use Rattle.header.specs.declared.Header.the-variants as header
 use Rattle.header.specs.Header.{headerOf}
-use Rattle.register.specs.declared.Outcome.{Outcome}
-use Rattle.register.specs.declared.Outcome.the-variants as outcome
+use Rattle.walk.specs.declared.Outcome.{Outcome}
+use Rattle.walk.specs.declared.Outcome.the-variants as outcome
 use Rattle.register.specs.Register.{outcomeOf}
-use Rattle.decimal.specs.Decimal.{Wrote}
-use Rattle.decimal.specs.Laws.{joined, written-first}
-use Rattle.lines.specs.Lines.{leaderLine, refusedLine, tooLong}
+use Rattle.buffer.specs.Wrote.{Wrote}
+use Rattle.buffer.specs.Laws.{joined, written-first}
+use Rattle.closing.specs.Closing.{leaderLine, refusedLine, tooLong}
 use Rattle.listing.specs.declared.Listed.{Listed}
 use Rattle.listing.specs.declared.Listed.the-variants as listed
 use Rattle.listing.specs.Listing.{longest, enough, leaderLines, listedAfter, unlessLong, textOf, listingRoom, ifRoom, listedOf, keptIf, listedInto}
@@ -35,6 +35,10 @@ module _ {b₀ b₁ b₂ : List ℕ} {at mid end : ℕ} where
       → Wrote b₀ b₁ at mid (linesFrom n 0 (take (length bytes - 7) (drop 7 bytes))) → Wrote b₁ b₂ mid end (leaderLines l) → Wrote b₀ b₂ at end (listedAfter (headerOf bytes enough) bytes)
   accepted-lines bytes n h e q o cards leaders =
       subst (Wrote b₀ b₂ at end) (accepted-text bytes n o (sym e ∙ q)) (joined cards leaders)
+
+-- 128 bytes a card: the leaders have room behind 2,000 cards
+pub behind-cards : (at n : ℕ) → at ≤ 128 * n → n ≤ 2_000 → at ≤ 128 * 2_000
+behind-cards at n long few = omega arith
 
 pub accepted-is : (bytes : List ℕ) (x : Outcome) {l : Leaders} → x ≡ outcomeOf bytes enough → x ≡ outcome.Accepted l → outcomeOf bytes enough ≡ outcome.Accepted l
 accepted-is bytes x e q = sym e ∙ q

@@ -12,8 +12,8 @@ use Rattle.card.specs.declared.Answer.{Answer}
 use Rattle.card.specs.declared.Answered.{Answered}
 use Rattle.card.specs.declared.Answered.the-variants as answered
 use Rattle.card.specs.Answers.{answerOf}
-use Rattle.decimal.specs.Decimal.{Wrote}
-use Rattle.decimal.specs.Laws.{sets-append}
+use Rattle.buffer.specs.Wrote.{Wrote}
+use Rattle.buffer.specs.Laws.{sets-append}
 use Rattle.lines.specs.Lines.{cardLine}
 use Rattle.listing.specs.Walk.{lined, linesFrom}
 

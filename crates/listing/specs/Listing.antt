@@ -13,7 +13,8 @@ use Rattle.header.specs.declared.Header.{Header}
 use Rattle.header.specs.declared.Header.the-variants as header
 use Rattle.header.specs.Header.{headerSize, cardSize, answerSize, headerOf}
 use Rattle.register.specs.Register.{Cards, answers, sent-back, cardsOf}
-use Rattle.lines.specs.Lines.{cardLine, leaderLine, refusedLine, tooLong}
+use Rattle.lines.specs.Lines.{cardLine}
+use Rattle.closing.specs.Closing.{leaderLine, refusedLine, tooLong}
 use Rattle.listing.specs.declared.Listed.{Listed}
 use Rattle.listing.specs.declared.Listed.the-variants as listed
 

@@ -7,7 +7,7 @@ use register::Outcome;
 ghost use mathlib.Core.Path.{_≡_};
 ghost use Prim.Native.Nat.{_*_, _≤_};
 ghost use lib.ListN.{length};
-ghost use Rattle.decimal.specs.Decimal.{Wrote};
+ghost use Rattle.buffer.specs.Wrote.{Wrote};
 ghost use Rattle.header.specs.Header.{headerOf};
 ghost use Rattle.register.specs.Register.{outcomeOf};
 ghost use Rattle.listing.specs.Listing.{enough, leaderLines, listedAfter, listingRoom, listedOf, listedInto, Within};
@@ -59,8 +59,8 @@ fn put_leaders(out: &mut [u8], at: usize, leaders: Leaders) -> usize
 {
     let toxic = leaders.toxic;
     let flammable = leaders.flammable;
-    let next = lines::put_leader(out, at, b'T', toxic);
-    lines::put_leader(out, next, b'F', flammable)
+    let next = closing::put_leader(out, at, b'T', toxic);
+    closing::put_leader(out, next, b'F', flammable)
 }
 
 // The listing of a register that is accepted, with these leaders.
@@ -88,7 +88,7 @@ fn put_listing(register: &[u8], out: &mut [u8]) -> usize
         Outcome::Accepted(leaders) => put_accepted(register, out, leaders),
         Outcome::Refused(refusal, place) => {
             let number = refusals::number(refusal);
-            lines::put_refused(out, 0, number, place)
+            closing::put_refused(out, 0, number, place)
         }
     }
 }
@@ -103,7 +103,7 @@ pub fn list(register: &[u8], out: &mut [u8]) -> Listed
         return Listed::NoRoom;
     }
     if LONGEST < register.len() {
-        return Listed::Text(lines::put_too_long(out, 0));
+        return Listed::Text(closing::put_too_long(out, 0));
     }
     Listed::Text(put_listing(register, out))
 }

@@ -4,7 +4,7 @@ use Prim.Native.Nat.{ℕ, _+_, _*_, _<_}
 use mathlib.Core.Path.{_≡_}
 use mathlib.Core.List.{List}
 use lib.ListN.{take, drop, length}
-use Rattle.fields.specs.Layout.{byteAt}
+use Rattle.buffer.specs.Numbers.{byteAt}
 use Rattle.card.specs.declared.Class.{Class}
 use Rattle.card.specs.declared.Class.the-variants as class
 use Rattle.card.specs.Order.{kindOf, Counterpart}
@@ -12,7 +12,7 @@ use Rattle.farthest.specs.declared.Leaders.{Leaders}
 use Rattle.farthest.specs.declared.Farthest.{Farthest}
 use Rattle.farthest.specs.Farthest.{NoFarther}
 use Rattle.header.specs.Header.{headerSize, cardSize, countOf}
-use Rattle.register.specs.declared.Outcome.the-variants as outcome
+use Rattle.walk.specs.declared.Outcome.the-variants as outcome
 use Rattle.register.specs.Register.{outcomeOf}
 
 -- "Demand 3 reads its cards from the bytes handed in": the 24 bytes of the card at a place

@@ -11,19 +11,21 @@ use Rattle.exhibits.specs.PrintedB2.{b2}
 use Rattle.exhibits.specs.PrintedB4.{b4}
 use Rattle.exhibits.specs.Columns.{dfOf}
 use Rattle.exhibits.specs.Exhibits.{factorsOf, toxicOf}
-use Rattle.dispersion.specs.PrintedNeutral.{table1, table2, table3, table4}
-use Rattle.dispersion.specs.PrintedDense.{endpoints5, endpoints6, endpoints7, endpoints8, rates5, rates6, rates7, rates8, table5, table6, table7, table8}
+use Rattle.neutral.specs.PrintedNeutral.{table1, table2, table3, table4}
+use Rattle.dense.specs.PrintedDense.{endpoints5, endpoints6, endpoints7, endpoints8, rates5, rates6, rates7, rates8, table5, table6, table7, table8}
 use Rattle.dispersion.specs.PrintedChemical.{table9, table10, table11, table12}
-use Rattle.dispersion.specs.Rules.{answered, apart, byRange, byRow, closest, closestColumn, closestFrom, closestRow, distance, fromColumn, holding, inUse, larger, largest, lastOf, markOf, past, ratioBelow, smaller, thousandths}
+use Rattle.rules.specs.Rules.{answered, apart, byRange, byRow, closest, closestColumn, closestFrom, closestRow, distance, fromColumn, holding, inUse, larger, largest, lastOf, markOf, past, ratioBelow, smaller, thousandths}
 use Rattle.dispersion.specs.Tables.{readIn, readingOf, tables}
 use Rattle.blast.specs.Printed13.{quantities, table13}
 use Rattle.blast.specs.Blast.{blastReading, entryAt, isFlammable, rowOf}
 use Rattle.release.specs.Pool.{atMostTenMinutes, dikedArea, poolArea, poolRate}
-use Rattle.scenario.specs.Plan.{columnOf, planOf, poolOf, tableOf, vaporOf}
+use Rattle.factors.specs.Factors.{columnOf}
+use Rattle.scenario.specs.Plan.{planOf, poolOf, tableOf, vaporOf}
 use Rattle.fields.specs.Layout.{fieldsOf}
 use Rattle.meaning.specs.declared.Meaning.{Meaning}
 use Rattle.meaning.specs.declared.Meaning.the-variants as meaning
-use Rattle.meaning.specs.Reading.{badArea, badHeat, badNumber, badPounds, badWall, blank, boundsOf, flammableOf, groundOf, heldOf, meaningOf, openOf, shapeOf, signed, stateOf, toxicMeaning}
+use Rattle.meaning.specs.Reading.{badArea, badHeat, badNumber, badPounds, badWall, boundsOf, flammableOf, meaningOf, signed, toxicMeaning}
+use Rattle.form.specs.Form.{groundOf, heldOf, openOf, shapeOf, stateOf, blank}
 use Rattle.card.specs.declared.Class.{Class}
 use Rattle.card.specs.declared.Class.the-variants as class
 use Rattle.card.specs.declared.Answer.{Answer}
@@ -31,10 +33,10 @@ use Rattle.card.specs.Answers.{answerOf}
 use Rattle.farthest.specs.declared.Farthest.{Farthest}
 use Rattle.farthest.specs.declared.Farthest.the-variants as farthest
 use Rattle.farthest.specs.Farthest.{leadersAfter, leadersFrom, leadersOf}
-use Rattle.encode.specs.Bytes.{twoBytes, fourBytes}
+use Rattle.buffer.specs.Numbers.{twoBytes, fourBytes}
 use Rattle.header.specs.Header.{answerSize, badBuffer, badCount, badLength, badVersion, cardSize, headerOf, headerSize}
-use Rattle.register.specs.declared.Outcome.{Outcome}
-use Rattle.register.specs.declared.Outcome.the-variants as outcome
+use Rattle.walk.specs.declared.Outcome.{Outcome}
+use Rattle.walk.specs.declared.Outcome.the-variants as outcome
 use Rattle.register.specs.Register.{Cards, answers, cardsFrom, cardsOf, outcomeOf}
 
 -- a card's 24 bytes: kind, state, ground, containment, CAS number, pounds, area, wall, temperature, card number

@@ -1,14 +1,14 @@
--- The walks of the code come to what a register is.
+-- The walks of the code (`walk/specs/Walks.antt`) come to what a register is (`Register.antt`).
 -- Assumes nothing.
 use Prim.Native.Nat.{ℕ, zero, suc, _+_, _-_, _*_, _≤_}
 use native.Mathlib.Omega.{arith}
 use native.Mathlib.Nat.{zero-add}
 use mathlib.Core.Path.{_≡_, _∙_, refl, ap, ap₂, sym, subst}
 use mathlib.Core.List.{List, [], _∷_, _++_}
-use lib.ListN.{length, take, drop, length-append, length-drop}
+use lib.ListN.{length, take, drop, length-append, length-take, length-drop}
 use lib.Seq.{sets, take-all, take-at}
-use Rattle.decimal.specs.Decimal.{Wrote}
-use Rattle.decimal.specs.Laws.{sets-append, written-first}
+use Rattle.buffer.specs.Wrote.{Wrote}
+use Rattle.buffer.specs.Laws.{sets-append, written-first}
 use Rattle.refusals.specs.declared.Refusal.{Refusal}
 use Rattle.card.specs.declared.Answer.{Answer}
 use Rattle.card.specs.declared.Answered.{Answered}
@@ -21,10 +21,10 @@ use Rattle.encode.specs.Laws.{length-answer}
 use Rattle.header.specs.declared.Header.{Header}
 use Rattle.header.specs.declared.Header.the-variants as header
 use Rattle.header.specs.Header.{headerOf, headerRefusal, HeaderFits, Fitting}
-use Rattle.register.specs.declared.Outcome.{Outcome}
-use Rattle.register.specs.declared.Outcome.the-variants as outcome
+use Rattle.walk.specs.declared.Outcome.{Outcome}
+use Rattle.walk.specs.declared.Outcome.the-variants as outcome
 use Rattle.register.specs.Register.{Cards, answers, sent-back, joined, then, cardsFrom, cardsOf, resultOf, afterHeader, outcomeOf, bytesOf, filledWith, filledAfter, bufferOf}
-use Rattle.register.specs.Walks.{surveyed, surveyFrom, filled, fillFrom}
+use Rattle.walk.specs.Walks.{surveyed, surveyFrom, filled, fillFrom}
 
 clash : {A : Type 0} → _≡_ {A = ℕ} 0 1 → A
 clash z = absurd (omega arith)
@@ -168,6 +168,24 @@ module _ (bytes : List ℕ) (room : ℕ) (h : Header) (e : h ≡ headerOf bytes 
 
   pub header-fitting : (n : ℕ) → HeaderFits bytes room h → h ≡ header.Good n → Fitting bytes room n
   header-fitting n f q = subst (HeaderFits bytes room) q f
+
+-- what a good header says of the room: for the calls behind it
+module _ (bytes : List ℕ) (room : ℕ) (h : Header) (e : h ≡ headerOf bytes room) (f : HeaderFits bytes room h) (n : ℕ) (q : h ≡ header.Good n) where
+  pub good-header : 7 ≤ length bytes
+  good-header = let fits = header-fitting bytes room h e n f q in omega arith
+
+  pub good-count : n ≤ 2_000
+  good-count = header-fitting bytes room h e n f q .cards
+
+  pub good-cards : 24 * n ≤ length (take (length bytes - 7) (drop 7 bytes))
+  good-cards =
+      let fits = header-fitting bytes room h e n f q in
+      simp (length-take, length-drop) (omega arith)
+
+  pub good-answers : 16 * n ≤ room
+  good-answers = header-fitting bytes room h e n f q .answers
+
+pub ruleset good = (good-header, good-count, good-cards, good-answers)
 
 -- and what it leaves in the buffer
 module _ (bytes out : List ℕ) (h : Header) (e : h ≡ headerOf bytes (length out)) where

@@ -1,3 +1,2 @@
 pub mod Register
-pub mod Walks
 pub mod Laws

@@ -1,10 +1,10 @@
--- A register: its cards in turn, what the call answers, and what it leaves in the answer buffer.
+-- What a register is: its cards in turn, what the call answers, and what it leaves in the answer buffer. The contracts of the
+-- entry points cite this file; how the code walks over the cards stands in `walk/specs/Walks.antt`.
 -- Assumes nothing.
 use Prim.Native.Nat.{ℕ, zero, suc, _+_, _*_}
 use mathlib.Core.List.{List, [], _∷_, _++_}
 use lib.ListN.{length, take, drop}
 use Rattle.refusals.specs.declared.Refusal.{Refusal}
-use Rattle.refusals.specs.declared.Refusal.the-variants as refusal
 use Rattle.card.specs.declared.Answer.{Answer}
 use Rattle.card.specs.declared.Answered.{Answered}
 use Rattle.card.specs.declared.Answered.the-variants as answered
@@ -15,8 +15,8 @@ use Rattle.encode.specs.Bytes.{answerBytes}
 use Rattle.header.specs.declared.Header.{Header}
 use Rattle.header.specs.declared.Header.the-variants as header
 use Rattle.header.specs.Header.{headerSize, cardSize, headerOf}
-use Rattle.register.specs.declared.Outcome.{Outcome}
-use Rattle.register.specs.declared.Outcome.the-variants as outcome
+use Rattle.walk.specs.declared.Outcome.{Outcome}
+use Rattle.walk.specs.declared.Outcome.the-variants as outcome
 
 -- what the cards of a register come to: every card's answer, or the first refusal and the place of its card
 pub data Cards : Type 0 where
@@ -38,11 +38,6 @@ unfoldable pub cardsFrom : ℕ → ℕ → ℕ → List ℕ → Cards
 cardsFrom zero place last bytes = answers []
 cardsFrom (suc left) place last bytes =
     then (answerOf (take cardSize bytes) last) place (λ n. cardsFrom left (suc place) n (drop cardSize bytes))
-
--- the refusal of a card that has one; the last of them where it has none
-abbrev pub answeredRefusal : Answered → Refusal
-answeredRefusal (answered.Is a) = refusal.Beyond
-answeredRefusal (answered.Refused r) = r
 
 -- all cards of a register
 unfoldable pub cardsOf : ℕ → List ℕ → Cards

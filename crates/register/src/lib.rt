@@ -1,82 +1,10 @@
 // A register: its cards checked in turn, then answered into the lent buffer.
-use card::Answered;
-use farthest::Leaders;
 use header::Header;
-use refusals::Refusal;
+pub use walk::Outcome;
 ghost use mathlib.Core.Path.{_≡_};
-ghost use Prim.Native.Nat.{_+_, _*_, _≤_, _<_};
-ghost use lib.ListN.{length, take, drop};
-ghost use Rattle.card.specs.Answers.{answerOf};
-ghost use Rattle.farthest.specs.Farthest.{noLeaders};
-ghost use Rattle.register.specs.Register.{answeredRefusal, cardsFrom, resultOf, filledWith, outcomeOf, bufferOf};
-ghost use Rattle.register.specs.Walks.{surveyFrom, fillFrom};
-
-// What a call answers: both classes' farthest, or a refusal and the place of its card.
-pub enum Outcome {
-    Accepted(Leaders),
-    Refused(Refusal, u32),
-}
-
-fn refusal_of(answered: Answered) -> Refusal
-    ensures { λ r. ⌜ r ≡ answeredRefusal answered ⌝ }
-{
-    match answered {
-        Answered::Is(_) => Refusal::Beyond,
-        Answered::Refused(refusal) => refusal,
-    }
-}
-
-// The answer of the card at a place, after the last card's number.
-fn answer_at(cards: &[u8], place: usize, last: u32) -> Answered
-    requires { ⌜ (place < 2000) × (24 * place + 24 ≤ length (now cards)) ⌝ }
-    ensures { λ r. ⌜ r ≡ answerOf (take 24 (drop (24 * place) (now (cards .entry)))) last ⌝ }
-{
-    let at = 24 * place;
-    let end = at + 24;
-    card::answer_of(&cards[at..end], last)
-}
-
-// The walk that writes nothing: every card is checked, and the leaders are kept on the way.
-fn survey(cards: &[u8], count: usize) -> Outcome
-    requires { ⌜ (count ≤ 2000) × (24 * count ≤ length (now cards)) ⌝ }
-    ensures { λ r. ⌜ r ≡ surveyFrom count 0 0 (now (cards .entry)) noLeaders ⌝ }
-{
-    let mut leaders = farthest::no_leaders();
-    let mut last = 0u32;
-    let mut place = 0usize;
-    while place < count {
-        let answered = answer_at(cards, place, last);
-        let Answered::Is(answer) = answered else {
-            return Outcome::Refused(refusal_of(answered), place as u32);
-        };
-        leaders = farthest::lead(leaders, answer);
-        last = answer.number;
-        place += 1;
-    }
-    Outcome::Accepted(leaders)
-}
-
-// The walk that writes the answers too, sixteen bytes a card. It stops at a card that has none.
-fn survey_and_fill(cards: &[u8], count: usize, out: &mut [u8]) -> Outcome
-    requires { ⌜ (count ≤ 2000) × (24 * count ≤ length (now cards)) × (16 * count ≤ length (now out)) ⌝ }
-    ensures { λ r. ⌜ r ≡ surveyFrom count 0 0 (now (cards .entry)) noLeaders ⌝ }
-    ensures { λ r. ⌜ now (out .exit) ≡ fillFrom count 0 0 (now (cards .entry)) (now (out .entry)) ⌝ }
-{
-    let mut leaders = farthest::no_leaders();
-    let mut last = 0u32;
-    let mut place = 0usize;
-    while place < count {
-        let answered = answer_at(cards, place, last);
-        let Answered::Is(answer) = answered else {
-            return Outcome::Refused(refusal_of(answered), place as u32);
-        };
-        encode::put_answer(out, 16 * place, answer);
-        leaders = farthest::lead(leaders, answer);
-        last = answer.number;
-        place += 1;
-    }
-    Outcome::Accepted(leaders)
-}
+ghost use Prim.Native.Nat.{_*_, _≤_};
+ghost use lib.ListN.{length};
+ghost use Rattle.register.specs.Register.{cardsFrom, resultOf, filledWith, outcomeOf, bufferOf};
 
 // A short register is walked twice: first to check every card, then to write.
 fn answer_short(cards: &[u8], count: usize, answers: &mut [u8]) -> Outcome
@@ -84,10 +12,10 @@ fn answer_short(cards: &[u8], count: usize, answers: &mut [u8]) -> Outcome
     ensures { λ r. ⌜ r ≡ resultOf (cardsFrom count 0 0 (now (cards .entry))) ⌝ }
     ensures { λ r. ⌜ now (answers .exit) ≡ filledWith (cardsFrom count 0 0 (now (cards .entry))) (now (answers .entry)) ⌝ }
 {
-    let outcome = survey(cards, count);
+    let outcome = walk::survey(cards, count);
     match outcome {
         Outcome::Accepted(leaders) => {
-            survey_and_fill(cards, count, answers);
+            walk::survey_and_fill(cards, count, answers);
             Outcome::Accepted(leaders)
         }
         Outcome::Refused(refusal, place) => Outcome::Refused(refusal, place),
@@ -102,11 +30,11 @@ fn answer_long(cards: &[u8], count: usize, answers: &mut [u8]) -> Outcome
     ensures { λ r. ⌜ now (answers .exit) ≡ filledWith (cardsFrom count 0 0 (now (cards .entry))) (now (answers .entry)) ⌝ }
 {
     let mut scratch = [0u8; 32000];
-    let outcome = survey_and_fill(cards, count, &mut scratch);
+    let outcome = walk::survey_and_fill(cards, count, &mut scratch);
     let end = 16 * count;
     match outcome {
         Outcome::Accepted(leaders) => {
-            decimal::put_text(answers, 0, &scratch[..end]);
+            buffer::put_text(answers, 0, &scratch[..end]);
             Outcome::Accepted(leaders)
         }
         Outcome::Refused(refusal, place) => Outcome::Refused(refusal, place),
@@ -146,5 +74,5 @@ pub fn outcome_of(register: &[u8], room: usize) -> Outcome
     let Header::Good(count) = header else {
         return Outcome::Refused(header::header_refusal(header), 0);
     };
-    survey(&register[7..], count)
+    walk::survey(&register[7..], count)
 }

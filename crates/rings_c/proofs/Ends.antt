@@ -8,8 +8,8 @@ use Rattle.card.specs.declared.Class.{Class}
 use Rattle.farthest.specs.declared.Farthest.{Farthest}
 use Rattle.farthest.specs.declared.Farthest.the-variants as farthest
 use Rattle.farthest.specs.declared.Leaders.{Leaders}
-use Rattle.register.specs.declared.Outcome.{Outcome}
-use Rattle.register.specs.declared.Outcome.the-variants as outcome
+use Rattle.walk.specs.declared.Outcome.{Outcome}
+use Rattle.walk.specs.declared.Outcome.the-variants as outcome
 use Rattle.rings_c.specs.Words.{wordOf, refusalCode, codeOf, leaderOf, wordAfter}
 
 pub none-word : (f : Farthest) → f ≡ farthest.None → 0 ≡ wordOf f

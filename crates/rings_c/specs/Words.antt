@@ -8,8 +8,8 @@ use Rattle.card.specs.declared.Class.the-variants as class
 use Rattle.farthest.specs.declared.Farthest.{Farthest}
 use Rattle.farthest.specs.declared.Farthest.the-variants as farthest
 use Rattle.farthest.specs.declared.Leaders.{Leaders}
-use Rattle.register.specs.declared.Outcome.{Outcome}
-use Rattle.register.specs.declared.Outcome.the-variants as outcome
+use Rattle.walk.specs.declared.Outcome.{Outcome}
+use Rattle.walk.specs.declared.Outcome.the-variants as outcome
 
 -- "each none or a card number and a distance": 0 for none, which no card has, since its number is not zero
 unfoldable pub wordOf : Farthest → ℕ

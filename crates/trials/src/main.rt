@@ -31,7 +31,7 @@ fn fill(register: &[u8], room: usize, text: &mut [u8]) {
         return;
     };
     let mut line = [0u8; 64];
-    let end = lines::put_refused(&mut line, 0, refusals::number(refusal), place);
+    let end = closing::put_refused(&mut line, 0, refusals::number(refusal), place);
     io::write_all(STDOUT_FILENO, &line[..end]);
 }
 
@@ -55,13 +55,13 @@ fn run_case(cases: &[u8], at: usize, text: &mut [u8]) -> usize
     ensures { λ r. ⌜ (at < r) × (r ≤ length (now (cases .entry))) ⌝ }
 {
     let label = at + 2;
-    let middle = label + fields::two(cases, at) as usize;
+    let middle = label + buffer::two(cases, at) as usize;
     let start = middle + 4;
-    let end = start + fields::two(cases, middle + 2) as usize;
+    let end = start + buffer::two(cases, middle + 2) as usize;
     if cases.len() < end {
         return cases.len();
     }
-    let room = fields::two(cases, middle) as usize;
+    let room = buffer::two(cases, middle) as usize;
     say(&cases[label..middle]);
     run(&cases[start..end], room, text);
     end

@@ -1,7 +1,7 @@
 -- `decimal::put_number_then` meets its contract: the number, and the byte behind it.
 -- Assumes nothing.
 use borrow.Author.Needs.{needs}
-use Rattle.decimal.specs.Laws.{joined}
+use Rattle.buffer.specs.Laws.{joined}
 use Rattle.decimal.proofs.put_number_then.Statement.{statement}
 use Rattle.decimal.proofs.put_number_then.Tie as tie
 

@@ -4,7 +4,7 @@
 use native.Mathlib.Omega.{arith}
 use lib.ListN.{length-set}
 use borrow.Author.Needs.{needs}
-use Rattle.encode.proofs.Ends.{answer-end}
+use Rattle.encode.proofs.Ends.{length-kept, answer-end}
 use Rattle.encode.proofs.put_answer.Statement.{statement}
 use Rattle.encode.proofs.put_answer.Tie as tie
 
@@ -39,24 +39,15 @@ add-put-two : tie.Need-add-put-two
 add-put-two c = search needs
 
 put-two-requires : tie.Need-put-two-requires
-put-two-requires c κs = omega (arith, simp length-set at (c .before .before .before .put-eight .kept .0))
+put-two-requires c κs =
+    let kept-by-eight = c .before .before .before .put-eight .kept .0 in
+    omega (arith, simp length-set at kept-by-eight)
 
 same-length : tie.Need-same-length
-same-length c =
-    omega (arith, simp length-set at (c .before .before .before .before .before .before .put-eight .kept .0))
+same-length c = search (length-kept, needs)
 
 returns : tie.Need-returns
-returns c =
-    let two = c .before .before in
-    let eight = two .before .before .before .before in
-    let four = eight .before .before .before .before in
-    let distance = four .before .before in
-    let rate = distance .before in
-    let args = rate .before .before .args in
-    answer-end (args .answer) (args .at) (rate .thousandths .result) (distance .hundredths .result)
-    (args .out .now) (four .put-four .last .0) (eight .put-eight .last .0) (two .put-two .last .0)
-    (rate .thousandths .ensures) (distance .hundredths .ensures)
-    (four .put-four .ensures) (eight .put-eight .ensures) (two .put-two .ensures)
+returns c = search (answer-end, needs)
 
 pub put-answer-spec : {M : Type 1} → statement M
 put-answer-spec =

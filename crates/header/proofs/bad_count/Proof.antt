@@ -4,7 +4,7 @@ use Rattle.header.proofs.bad_count.Statement.{statement}
 use Rattle.header.proofs.bad_count.Tie as tie
 use Rattle.header.proofs.bad_count.Reads as reads
 use Rattle.header.proofs.bad_count.Lts as lts
-use Rattle.fields.proofs.two.Reads as two-reads
+use Rattle.buffer.proofs.two.Reads as two-reads
 
 -- src/lib.rt:32:17
 two-requires : tie.Need-two-requires

@@ -4,7 +4,7 @@ use Rattle.header.proofs.bad_length.Statement.{statement}
 use Rattle.header.proofs.bad_length.Tie as tie
 use Rattle.header.proofs.bad_length.Reads as reads
 use Rattle.header.proofs.bad_length.Lts as lts
-use Rattle.fields.proofs.four.Reads as four-reads
+use Rattle.buffer.proofs.four.Reads as four-reads
 
 -- src/lib.rt:17:9
 returns : tie.Need-returns

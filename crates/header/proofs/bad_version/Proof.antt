@@ -4,7 +4,7 @@ use Rattle.header.proofs.bad_version.Statement.{statement}
 use Rattle.header.proofs.bad_version.Tie as tie
 use Rattle.header.proofs.bad_version.Reads as reads
 use Rattle.header.proofs.bad_version.Lts as lts
-use Rattle.fields.proofs.byte.Reads as byte-reads
+use Rattle.buffer.proofs.byte.Reads as byte-reads
 
 -- src/lib.rt:26:5
 byte-requires : tie.Need-byte-requires

@@ -4,7 +4,7 @@ use Rattle.header.proofs.header_of.Statement.{statement}
 use Rattle.header.proofs.header_of.Tie as tie
 use Rattle.header.proofs.header_of.Reads as reads
 use Rattle.header.proofs.header_of.Lts as lts
-use Rattle.fields.proofs.two.Reads as two-reads
+use Rattle.buffer.proofs.two.Reads as two-reads
 use Rattle.header.proofs.bad_count.Reads as bad-count-reads
 use Rattle.header.proofs.bad_length.Reads as bad-length-reads
 use Rattle.header.proofs.bad_version.Reads as bad-version-reads

@@ -1,7 +1,5 @@
 -- `listing::list` meets its contract: a buffer without room is kept; in any other stands the text, and behind it what was there.
 -- Assumes nothing.
-use native.Mathlib.Omega.{arith}
-use denote.Ref.{now}
 use Rattle.listing.proofs.Ends.{no-room, kept, long-listed, long-into, short-listed, short-into}
 use borrow.Author.Needs.{needs}
 use Rattle.listing.proofs.list.Statement.{statement}
@@ -17,12 +15,7 @@ same-length : tie.Need-same-length
 same-length c = search needs
 
 returns-2 : tie.Need-returns-2
-returns-2 c =
-    let a = c .before .before .before .before .before .before .before .before .args in
-    let put = c .before .before .put-too-long in (
-      long-listed (now (a .register)) (now (a .out)) (omega arith) _ (omega arith) (put .ensures .0),
-      (long-into (now (a .register)) (now (a .out)) (omega arith) _ (omega arith) (put .ensures .0) (put .ensures .1), search needs),
-    )
+returns-2 c = (search (long-listed, needs), (search (long-into, needs), search needs))
 
 put-listing-requires : tie.Need-put-listing-requires
 put-listing-requires c κs = search needs
@@ -31,12 +24,7 @@ same-length-2 : tie.Need-same-length-2
 same-length-2 c = search needs
 
 returns-3 : tie.Need-returns-3
-returns-3 c =
-    let a = c .before .before .before .before .before .before .before .before .args in
-    let put = c .before .before .put-listing in (
-      short-listed (now (a .register)) (now (a .out)) (omega arith) _ (omega arith) (put .ensures .0),
-      (short-into (now (a .register)) (now (a .out)) (omega arith) _ (omega arith) (put .ensures .0) (put .ensures .1), search needs),
-    )
+returns-3 c = (search (short-listed, needs), (search (short-into, needs), search needs))
 
 pub list-spec : {M : Type 1} → statement M
 list-spec =

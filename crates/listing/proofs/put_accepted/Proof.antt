@@ -1,11 +1,7 @@
 -- `listing::put_accepted` meets its contract: the header of an accepted register is good, and its cards' lines stand before its leaders'.
 -- Assumes nothing.
-use native.Mathlib.Omega.{arith}
-use denote.Ref.{now}
-use lib.ListN.{length-take, length-drop}
-use Rattle.register.specs.Laws.{header-fitting}
-use Rattle.listing.specs.Listing.{enough}
-use Rattle.listing.proofs.Ends.{accepted-lines, never-refused}
+use Rattle.register.specs.Laws.{good}
+use Rattle.listing.proofs.Ends.{accepted-lines, never-refused, behind-cards}
 use borrow.Author.Needs.{needs}
 use Rattle.listing.proofs.put_accepted.Statement.{statement}
 use Rattle.listing.proofs.put_accepted.Tie as tie
@@ -23,29 +19,19 @@ returns : tie.Need-returns
 returns c = search (never-refused, needs)
 
 sub-put-cards : tie.Need-sub-put-cards
-sub-put-cards c =
-    let s = c .before .before .before .before .before .before in
-    let f = header-fitting (now (s .args .register)) enough _ (c .before .before .before .header-of .ensures .0) _ (c .before .before .before .header-of .ensures .1) (c .before .header .given .1) in omega arith
+sub-put-cards c = search (good, needs)
 
 part-put-cards-start : tie.Need-part-put-cards-start
-part-put-cards-start c =
-    let s = c .before .before .before .before .before .before in
-    let f = header-fitting (now (s .args .register)) enough _ (c .before .before .before .header-of .ensures .0) _ (c .before .before .before .header-of .ensures .1) (c .before .header .given .1) in omega arith
+part-put-cards-start c = search (good, needs)
 
 part-put-cards-end : tie.Need-part-put-cards-end
 part-put-cards-end c = search needs
 
 put-cards-requires : tie.Need-put-cards-requires
-put-cards-requires c κs =
-    let s = c .before .before .before .before .before .before .before .before in
-    let f = header-fitting (now (s .args .register)) enough _ (c .before .before .before .before .before .header-of .ensures .0) _ (c .before .before .before .before .before .header-of .ensures .1) (c .before .before .before .header .given .1) in
-    (f .cards, simp (length-take, length-drop) (omega arith), omega arith)
+put-cards-requires c κs = search (good, needs)
 
 put-leaders-requires : tie.Need-put-leaders-requires
-put-leaders-requires c κs =
-    let s = c .before .before .before .before .before .before .before .before .before .before .before .before in
-    let f = header-fitting (now (s .args .register)) enough _ (c .before .before .before .before .before .before .before .before .before .header-of .ensures .0) _ (c .before .before .before .before .before .before .before .before .before .header-of .ensures .1) (c .before .before .before .before .before .before .before .header .given .1) in
-    (omega (arith, f .cards, c .before .before .before .put-cards .ensures .1), omega arith)
+put-leaders-requires c κs = search (behind-cards, good, needs)
 
 same-length : tie.Need-same-length
 same-length c = search needs

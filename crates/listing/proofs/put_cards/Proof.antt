@@ -1,12 +1,10 @@
 -- `listing::put_cards` meets its contract. The loop's invariant: what is written, with the lines of the cards that are left behind it,
 -- is the whole, and no card has taken more than 128 bytes. The measure is the cards left.
 -- Assumes nothing.
-use Prim.Native.Nat.{_≤_, _-_, _+_, _*_}
-use mathlib.Core.Path.{_≡_, _∙_}
-use native.Mathlib.Omega.{arith}
+use Prim.Native.Nat.{_≤_, _-_, _*_}
+use mathlib.Core.Path.{_≡_}
 use borrow.Author.Needs.{needs}
 use lib.ListN.{length}
-use denote.Ref.{now}
 use Rattle.listing.proofs.Turns.{Pending, Left, Whole, lines-start, lines-turn, lines-refused, lines-end}
 use Rattle.listing.proofs.put_cards.Statement.{statement}
 use Rattle.listing.proofs.put_cards.Tie as tie
@@ -20,9 +18,7 @@ abbrev μ-loop : tie.MeasureT-loop
 μ-loop cards count out₀ last₀ at₀ place₀ out last at place = count - place
 
 loop-holds : tie.Need-loop-holds Inv-loop μ-loop
-loop-holds c =
-    let a = c .before .before .args in
-    (omega arith, omega arith, omega arith, lines-start (now (a .cards)) (a .count) (now (a .out)))
+loop-holds c = search (lines-start, needs)
 
 mul-start : tie.Need-mul-start Inv-loop μ-loop
 mul-start c = search needs
@@ -52,13 +48,7 @@ same-length : tie.Need-same-length Inv-loop μ-loop
 same-length c = search needs
 
 returns : tie.Need-returns Inv-loop μ-loop
-returns c =
-    let a = c .before .before .before .before .before .before .before .before .args in
-    let l = c .before .before .before .before .before .loop in
-    let h = c .before .before .before .before .loop-test .taken in (
-      lines-refused (now (a .cards)) (a .count) (l .place) (l .last) h _ (c .before .before .answer-of .ensures) (c .enum-told .given .1) (l .inv .3),
-      omega (arith, h, l .inv .1),
-    )
+returns c = search (lines-refused, needs)
 
 put-card-line-requires : tie.Need-put-card-line-requires Inv-loop μ-loop
 put-card-line-requires c κs = search needs
@@ -70,28 +60,13 @@ loop-less : tie.Need-loop-less Inv-loop μ-loop
 loop-less c = search needs
 
 loop-again : tie.Need-loop-again Inv-loop μ-loop
-loop-again c =
-    let a = c .before .before .before .before .before .before .before .before .before .before .before .before .before .args in
-    let l = c .before .before .before .before .before .before .before .before .before .before .loop in
-    let h = c .before .before .before .before .before .before .before .before .before .loop-test .taken in
-    let r = c .before .before .before .before .before .answered .given in
-    let put = c .before .before .put-card-line in (
-      omega (arith, h),
-      omega (arith, put .ensures .1, l .inv .1),
-      put .kept .0 ∙ l .inv .2,
-      lines-turn (now (a .cards)) (a .count) (l .place) (l .last) h _ (c .before .before .before .before .before .before .before .answer-of .ensures) (r .0 .0) (r .1) (put .ensures .0) (l .inv .3),
-    )
+loop-again c = search (lines-turn, needs)
 
 same-length-2 : tie.Need-same-length-2 Inv-loop μ-loop
 same-length-2 c = search needs
 
 returns-2 : tie.Need-returns-2 Inv-loop μ-loop
-returns-2 c =
-    let a = c .before .before .before .before .args in
-    let l = c .before .loop in (
-      lines-end (now (a .cards)) (a .count) (l .place) (l .last) (c .loop-test .left) (l .inv .3),
-      omega (arith, l .inv .0, l .inv .1),
-    )
+returns-2 c = search (lines-end, needs)
 
 pub put-cards-spec : {M : Type 1} → statement M
 put-cards-spec =
