@@ -30,12 +30,12 @@ loop-less : tie.Need-loop-less Inv-loop μ-loop
 loop-less c = omega arith
 
 loop-again : tie.Need-loop-again Inv-loop μ-loop
-loop-again c = omega (arith, count-more (c .before .loop .rest) (c .loop-test .taken))
+loop-again c = omega (arith, count-more (c .before .loop .rest) (omega arith))
 
 returns : tie.Need-returns Inv-loop μ-loop
 returns c =
     let start = c .before .before in
-    omega (arith, count-small (c .before .loop .rest) (c .loop-test .left), digits-twenty (start .args .n) (start .fits .n .fits))
+    omega (arith, count-small (c .before .loop .rest) (omega arith), digits-twenty (start .args .n) (start .fits .n .fits))
 
 pub digit-count-spec : {M : Type 1} → statement M
 digit-count-spec =

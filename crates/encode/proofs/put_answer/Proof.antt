@@ -47,7 +47,17 @@ same-length : tie.Need-same-length
 same-length c = search (length-kept, needs)
 
 returns : tie.Need-returns
-returns c = search (answer-end, needs)
+returns c =
+    let two = c .before .before in
+    let eight = two .before .before .before .before in
+    let four = eight .before .before .before .before in
+    let distance = four .before .before in
+    let rate = distance .before in
+    let args = rate .before .before .args in
+    answer-end (args .answer) (args .at) (rate .thousandths .result) (distance .hundredths .result)
+    (args .out .now) (four .put-four .last .0) (eight .put-eight .last .0) (two .put-two .last .0)
+    (rate .thousandths .ensures) (distance .hundredths .ensures)
+    (four .put-four .ensures) (eight .put-eight .ensures) (two .put-two .ensures)
 
 pub put-answer-spec : {M : Type 1} → statement M
 put-answer-spec =
