@@ -18,7 +18,8 @@ use Rattle.conditions.specs.First.{holdsIn, Names}
 abbrev pub Holds : List ℕ → ℕ → ℕ → ℕ → Type 0
 Holds bytes room line place = holdsIn (conditionsAt bytes room place) line ≡ true
 
--- a refusal's condition holds at a place, no condition in a line above it holds there, and none holds at an earlier place
+-- a refusal's condition holds at a place, no condition in a line above it holds there, and none holds at an earlier place. 1 to
+-- 4 stand above 5 to 11 and at place 0 alone, so they come before every card.
 pub record First (bytes : List ℕ) (room : ℕ) (r : Refusal) (place : ℕ) : Type 0 where
   pub line : ℕ
   pub names : Names (conditionsAt bytes room place) line r
