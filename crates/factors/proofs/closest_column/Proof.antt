@@ -11,11 +11,9 @@ use Rattle.factors.proofs.closest_column.Reads as reads
 use Rattle.factors.proofs.closest_column.Lts as lts
 use Rattle.factors.proofs.below.Reads as below-reads
 
--- src/lib.rt:127:8
 below-requires : tie.Need-below-requires
 below-requires c κs = search needs
 
--- src/lib.rt:128:9
 returns : tie.Need-returns
 unfolding columnOf
 returns c =
@@ -24,11 +22,9 @@ returns c =
     let e1 : ltZ (pos 500) t ≡ true = turn (λ z. ltZ (pos 500) z) f (c .before .below .ensures) (c .if1 .taken) in
     simp (e1, columnOf)
 
--- src/lib.rt:130:8
 below-requires-2 : tie.Need-below-requires-2
 below-requires-2 c κs = search needs
 
--- src/lib.rt:131:9
 returns-2 : tie.Need-returns-2
 unfolding columnOf
 returns-2 c =
@@ -38,11 +34,9 @@ returns-2 c =
     let e2 : ltZ t (pos 275) ≡ true = turn (λ z. ltZ z (pos 275)) f (c .before .below2 .ensures) (c .if2 .taken) in
     simp (e1, e2, columnOf)
 
--- src/lib.rt:133:8
 below-requires-3 : tie.Need-below-requires-3
 below-requires-3 c κs = search needs
 
--- src/lib.rt:134:9
 returns-3 : tie.Need-returns-3
 unfolding columnOf
 returns-3 c =
@@ -53,11 +47,9 @@ returns-3 c =
     let e3 : ltZ t (pos 325) ≡ true = turn (λ z. ltZ z (pos 325)) f (c .before .below3 .ensures) (c .if3 .taken) in
     simp (e1, e2, e3, columnOf)
 
--- src/lib.rt:136:8
 below-requires-4 : tie.Need-below-requires-4
 below-requires-4 c κs = search needs
 
--- src/lib.rt:137:9
 returns-4 : tie.Need-returns-4
 unfolding columnOf
 returns-4 c =
@@ -69,11 +61,9 @@ returns-4 c =
     let e4 : ltZ t (pos 375) ≡ true = turn (λ z. ltZ z (pos 375)) f (c .before .below4 .ensures) (c .if4 .taken) in
     simp (e1, e2, e3, e4, columnOf)
 
--- src/lib.rt:139:8
 below-requires-5 : tie.Need-below-requires-5
 below-requires-5 c κs = search needs
 
--- src/lib.rt:140:9
 returns-5 : tie.Need-returns-5
 unfolding columnOf
 returns-5 c =
@@ -86,11 +76,9 @@ returns-5 c =
     let e5 : ltZ t (pos 425) ≡ true = turn (λ z. ltZ z (pos 425)) f (c .before .below5 .ensures) (c .if5 .taken) in
     simp (e1, e2, e3, e4, e5, columnOf)
 
--- src/lib.rt:142:8
 below-requires-6 : tie.Need-below-requires-6
 below-requires-6 c κs = search needs
 
--- src/lib.rt:143:9
 returns-6 : tie.Need-returns-6
 unfolding columnOf
 returns-6 c =
@@ -104,7 +92,6 @@ returns-6 c =
     let e6 : ltZ t (pos 475) ≡ true = turn (λ z. ltZ z (pos 475)) f (c .before .below6 .ensures) (c .if6 .taken) in
     simp (e1, e2, e3, e4, e5, e6, columnOf)
 
--- src/lib.rt:124:1
 returns-7 : tie.Need-returns-7
 unfolding columnOf
 returns-7 c =

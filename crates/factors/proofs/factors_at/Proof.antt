@@ -6,79 +6,60 @@ use Rattle.factors.proofs.factors_at.Reads as reads
 use Rattle.factors.proofs.factors_at.Lts as lts
 use Rattle.factors.proofs.of_cell.Reads as of-cell-reads
 
--- src/lib.rt:167:26
 enum-told : tie.Need-enum-told
 enum-told c = search needs
 
--- src/lib.rt:168:25
 enum-told-2 : tie.Need-enum-told-2
 enum-told-2 c = search needs
 
--- src/lib.rt:170:17
 enum-told-3 : tie.Need-enum-told-3
 enum-told-3 c = search needs
 
--- src/lib.rt:171:13
 of-cell-requires : tie.Need-of-cell-requires
 of-cell-requires c κs = search needs
 
--- src/lib.rt:174:17
 enum-told-4 : tie.Need-enum-told-4
 enum-told-4 c = search needs
 
--- src/lib.rt:175:13
 of-cell-requires-2 : tie.Need-of-cell-requires-2
 of-cell-requires-2 c κs = search needs
 
--- src/lib.rt:178:17
 enum-told-5 : tie.Need-enum-told-5
 enum-told-5 c = search needs
 
--- src/lib.rt:179:13
 of-cell-requires-3 : tie.Need-of-cell-requires-3
 of-cell-requires-3 c κs = search needs
 
--- src/lib.rt:182:17
 enum-told-6 : tie.Need-enum-told-6
 enum-told-6 c = search needs
 
--- src/lib.rt:183:13
 of-cell-requires-4 : tie.Need-of-cell-requires-4
 of-cell-requires-4 c κs = search needs
 
--- src/lib.rt:186:17
 enum-told-7 : tie.Need-enum-told-7
 enum-told-7 c = search needs
 
--- src/lib.rt:187:13
 of-cell-requires-5 : tie.Need-of-cell-requires-5
 of-cell-requires-5 c κs = search needs
 
--- src/lib.rt:160:1
 returns : tie.Need-returns
 returns c = search (in-column, needs)
 
--- src/lib.rt:160:1
 returns-2 : tie.Need-returns-2
 returns-2 c = search (in-column, needs)
 
--- src/lib.rt:160:1
 returns-3 : tie.Need-returns-3
 returns-3 c = search (in-column, needs)
 
--- src/lib.rt:160:1
 returns-4 : tie.Need-returns-4
 returns-4 c = search (in-column, needs)
 
--- src/lib.rt:160:1
 returns-5 : tie.Need-returns-5
 returns-5 c = search (in-column, needs)
 
--- src/lib.rt:160:1
 returns-6 : tie.Need-returns-6
 returns-6 c = search (in-column, needs)
 
--- src/lib.rt:160:1
 returns-7 : tie.Need-returns-7
 returns-7 c = search (in-column, needs)
 

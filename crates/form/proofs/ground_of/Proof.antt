@@ -5,15 +5,12 @@ use Rattle.form.proofs.ground_of.Tie as tie
 use Rattle.form.proofs.ground_of.Reads as reads
 use Rattle.form.proofs.ground_of.Lts as lts
 
--- src/lib.rt:122:9
 returns : tie.Need-returns
 returns c = search (rural, needs)
 
--- src/lib.rt:125:9
 returns-2 : tie.Need-returns-2
 returns-2 c = search (urban, needs)
 
--- src/lib.rt:118:1
 returns-3 : tie.Need-returns-3
 returns-3 c = search (no-ground, needs)
 

@@ -5,35 +5,27 @@ use Rattle.form.proofs.heat_fits.Tie as tie
 use Rattle.form.proofs.heat_fits.Reads as reads
 use Rattle.form.proofs.heat_fits.Lts as lts
 
--- src/lib.rt:162:23
 enum-told : tie.Need-enum-told
 enum-told c = search needs
 
--- src/lib.rt:163:31
 enum-told-2 : tie.Need-enum-told-2
 enum-told-2 c = search needs
 
--- src/lib.rt:164:32
 enum-told-3 : tie.Need-enum-told-3
 enum-told-3 c = search needs
 
--- src/lib.rt:165:26
 enum-told-4 : tie.Need-enum-told-4
 enum-told-4 c = search needs
 
--- src/lib.rt:158:1
 returns : tie.Need-returns
 returns c = search (heat-in, needs)
 
--- src/lib.rt:158:1
 returns-2 : tie.Need-returns-2
 returns-2 c = search (heat-in, needs)
 
--- src/lib.rt:158:1
 returns-3 : tie.Need-returns-3
 returns-3 c = search (heat-in, needs)
 
--- src/lib.rt:158:1
 returns-4 : tie.Need-returns-4
 returns-4 c = search needs
 

@@ -7,31 +7,24 @@ use Rattle.form.proofs.held_of.Lts as lts
 use Rattle.form.proofs.open_of.Reads as open-of-reads
 use Rattle.release.proofs.square_feet.Reads as square-feet-reads
 
--- src/lib.rt:142:9
 square-feet-requires : tie.Need-square-feet-requires
 square-feet-requires c κs = search needs
 
--- src/lib.rt:144:9
 returns : tie.Need-returns
 returns c = search (held-dike, needs)
 
--- src/lib.rt:147:9
 returns-2 : tie.Need-returns-2
 returns-2 c = search (held-wall, needs)
 
--- src/lib.rt:150:9
 returns-3 : tie.Need-returns-3
 returns-3 c = search (held-building, needs)
 
--- src/lib.rt:153:9
 open-of-requires : tie.Need-open-of-requires
 open-of-requires c κs = search needs
 
--- src/lib.rt:153:9
 returns-4 : tie.Need-returns-4
 returns-4 c = search (held-open, needs)
 
--- src/lib.rt:139:1
 returns-5 : tie.Need-returns-5
 returns-5 c = search (held-none, needs)
 

@@ -5,51 +5,39 @@ use Rattle.form.proofs.is_blank.Tie as tie
 use Rattle.form.proofs.is_blank.Reads as reads
 use Rattle.form.proofs.is_blank.Lts as lts
 
--- src/lib.rt:199:16
 cast-heat : tie.Need-cast-heat
 cast-heat c = search needs
 
--- src/lib.rt:199:32
 cast-heat-2 : tie.Need-cast-heat-2
 cast-heat-2 c = search needs
 
--- src/lib.rt:199:16
 add-heat : tie.Need-add-heat
 add-heat c = search needs
 
--- src/lib.rt:200:18
 cast-around : tie.Need-cast-around
 cast-around c = search needs
 
--- src/lib.rt:200:42
 cast-around-2 : tie.Need-cast-around-2
 cast-around-2 c = search needs
 
--- src/lib.rt:200:42
 add-around : tie.Need-add-around
 add-around c = search needs
 
--- src/lib.rt:200:18
 add-around-2 : tie.Need-add-around-2
 add-around-2 c = search needs
 
--- src/lib.rt:201:5
 cast-result : tie.Need-cast-result
 cast-result c = search needs
 
--- src/lib.rt:201:23
 cast-result-2 : tie.Need-cast-result-2
 cast-result-2 c = search needs
 
--- src/lib.rt:201:23
 add-result : tie.Need-add-result
 add-result c = search needs
 
--- src/lib.rt:201:5
 add-result-2 : tie.Need-add-result-2
 add-result-2 c = search needs
 
--- src/lib.rt:196:1
 returns : tie.Need-returns
 returns c = blank-sum (c .before .before .before .before .before .before .args .f)
 

@@ -5,11 +5,9 @@ use Rattle.form.proofs.open_of.Tie as tie
 use Rattle.form.proofs.open_of.Reads as reads
 use Rattle.form.proofs.open_of.Lts as lts
 
--- src/lib.rt:134:9
 returns : tie.Need-returns
 returns c = search (open-zero, needs)
 
--- src/lib.rt:130:1
 returns-2 : tie.Need-returns-2
 returns-2 c = search (open-filled, needs)
 

@@ -7,27 +7,21 @@ use Rattle.form.proofs.shape_of.Lts as lts
 use Rattle.form.proofs.is_blank.Reads as is-blank-reads
 use Rattle.form.proofs.toxic_shape.Reads as toxic-shape-reads
 
--- src/lib.rt:209:9
 toxic-shape-requires : tie.Need-toxic-shape-requires
 toxic-shape-requires c κs = search needs
 
--- src/lib.rt:209:9
 returns : tie.Need-returns
 returns c = search (shape-toxic, needs)
 
--- src/lib.rt:212:12
 is-blank-requires : tie.Need-is-blank-requires
 is-blank-requires c κs = search needs
 
--- src/lib.rt:213:13
 returns-2 : tie.Need-returns-2
 returns-2 c = search (shape-blank, needs)
 
--- src/lib.rt:205:1
 returns-3 : tie.Need-returns-3
 returns-3 c = search (shape-filled, needs)
 
--- src/lib.rt:205:1
 returns-4 : tie.Need-returns-4
 returns-4 c = search (shape-none, needs)
 

@@ -5,23 +5,18 @@ use Rattle.form.proofs.state_of.Tie as tie
 use Rattle.form.proofs.state_of.Reads as reads
 use Rattle.form.proofs.state_of.Lts as lts
 
--- src/lib.rt:104:9
 returns : tie.Need-returns
 returns c = search (state-1, needs)
 
--- src/lib.rt:107:9
 returns-2 : tie.Need-returns-2
 returns-2 c = search (state-2, needs)
 
--- src/lib.rt:110:9
 returns-3 : tie.Need-returns-3
 returns-3 c = search (state-3, needs)
 
--- src/lib.rt:113:9
 returns-4 : tie.Need-returns-4
 returns-4 c = search (state-4, needs)
 
--- src/lib.rt:100:1
 returns-5 : tie.Need-returns-5
 returns-5 c = search (no-state, needs)
 

@@ -9,63 +9,48 @@ use Rattle.form.proofs.heat_fits.Reads as heat-fits-reads
 use Rattle.form.proofs.held_of.Reads as held-of-reads
 use Rattle.form.proofs.state_of.Reads as state-of-reads
 
--- src/lib.rt:173:9
 state-of-requires : tie.Need-state-of-requires
 state-of-requires c κs = search needs
 
--- src/lib.rt:174:23
 enum-known-first : tie.Need-enum-known-first
 enum-known-first c = search needs
 
--- src/lib.rt:175:31
 enum-told : tie.Need-enum-told
 enum-told c = search needs
 
--- src/lib.rt:175:9
 returns : tie.Need-returns
 returns c = search (no-state-shape, needs)
 
--- src/lib.rt:177:9
 held-of-requires : tie.Need-held-of-requires
 held-of-requires c κs = search needs
 
--- src/lib.rt:178:18
 enum-known-second : tie.Need-enum-known-second
 enum-known-second c = search needs
 
--- src/lib.rt:179:31
 enum-told-2 : tie.Need-enum-told-2
 enum-told-2 c = search needs
 
--- src/lib.rt:179:9
 returns-2 : tie.Need-returns-2
 returns-2 c = search (no-held-shape, needs)
 
--- src/lib.rt:181:9
 ground-of-requires : tie.Need-ground-of-requires
 ground-of-requires c κs = search needs
 
--- src/lib.rt:182:24
 enum-known-third : tie.Need-enum-known-third
 enum-known-third c = search needs
 
--- src/lib.rt:183:31
 enum-told-3 : tie.Need-enum-told-3
 enum-told-3 c = search needs
 
--- src/lib.rt:183:9
 returns-3 : tie.Need-returns-3
 returns-3 c = search (no-ground-shape, needs)
 
--- src/lib.rt:185:8
 heat-fits-requires : tie.Need-heat-fits-requires
 heat-fits-requires c κs = search needs
 
--- src/lib.rt:186:9
 returns-4 : tie.Need-returns-4
 returns-4 c = search (heat-shape, needs)
 
--- src/lib.rt:170:1
 returns-5 : tie.Need-returns-5
 returns-5 c = search (heat-shape, needs)
 
