@@ -2,10 +2,8 @@
 -- Assumes nothing.
 use Prim.Native.Nat.{ℕ, _-_, _*_, _≤_, _<_}
 use native.Mathlib.Omega.{arith}
-use mathlib.Core.Path.{_≡_, _∙_, refl, ap, sym, subst}
+use mathlib.Core.Path.{_≡_, _∙_, ap, sym, subst}
 use mathlib.Core.List.{List, _++_}
-use mathlib.Core.Bool.{true, false}
-use lib.Dec.{ltb}
 use lib.ListN.{length, take, drop}
 use borrow.Author.Tests.{lt-ltb, le-ltb}
 use Rattle.refusals.specs.declared.Refusal.{Refusal}
@@ -20,7 +18,6 @@ use Rattle.register.specs.Register.{outcomeOf}
 use Rattle.buffer.specs.Wrote.{Wrote}
 use Rattle.buffer.specs.Laws.{joined, written-first}
 use Rattle.closing.specs.Closing.{leaderLine, refusedLine, tooLong}
-use Rattle.listing.specs.declared.Listed.{Listed}
 use Rattle.listing.specs.declared.Listed.the-variants as listed
 use Rattle.listing.specs.Listing.{longest, enough, leaderLines, listedAfter, unlessLong, textOf, listingRoom, ifRoom, listedOf, keptIf, listedInto}
 use Rattle.listing.specs.Walk.{linesFrom}

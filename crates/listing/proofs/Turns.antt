@@ -2,7 +2,7 @@
 -- Assumes nothing.
 use Prim.Native.Nat.{ℕ, suc, _+_, _-_, _*_, _≤_, _<_}
 use native.Mathlib.Omega.{arith}
-use native.Mathlib.Nat.{add-sub-cancel-left, sub-zero, add-zero, zero-add}
+use native.Mathlib.Nat.{add-sub-cancel-left, sub-zero}
 use mathlib.Core.Path.{_≡_, _∙_, refl, ap, ap₂, sym, subst}
 use mathlib.Core.List.{List, [], _++_}
 use lib.ListN.{length, take, drop, length-append}

@@ -4,8 +4,7 @@ use Prim.Native.Nat.{ℕ, zero, suc, _-_, _≤_}
 use native.Mathlib.Omega.{arith}
 use mathlib.Core.Path.{_≡_, _∙_, refl, ap, ap₂, sym, subst}
 use mathlib.Core.List.{List, [], _∷_, _++_}
-use lib.ListN.{length, take, drop, length-take, length-drop}
-use lib.Seq.{take-all}
+use lib.ListN.{length, take, drop, length-take}
 use Rattle.refusals.specs.declared.Refusal.{Refusal}
 use Rattle.refusals.specs.Numbers.{numberOf}
 use Rattle.card.specs.declared.Answer.{Answer}
@@ -18,7 +17,7 @@ use Rattle.header.specs.declared.Header.the-variants as header
 use Rattle.header.specs.Header.{headerOf}
 use Rattle.walk.specs.declared.Outcome.the-variants as outcome
 use Rattle.register.specs.Register.{Cards, answers, sent-back, then, cardsFrom, cardsOf, resultOf, afterHeader, outcomeOf}
-use Rattle.register.specs.Laws.{joined-is}
+use Rattle.register.specs.Laws.{joined-is, behind-header}
 use Rattle.lines.specs.Lines.{cardLine}
 use Rattle.closing.specs.Closing.{refusedLine}
 use Rattle.listing.specs.declared.Listed.{Listed}
@@ -51,16 +50,12 @@ refused-text : (c : Cards) {r : Refusal} {place : ℕ} → resultOf c ≡ outcom
 refused-text (answers xs) e = let z : _≡_ {A = ℕ} 0 1 = cc in clash z
 refused-text (sent-back r place) e = cc
 
--- what stands behind the header, as the code takes it
-behind : (bytes : List ℕ) → take (length bytes - 7) (drop 7 bytes) ≡ drop 7 bytes
-behind bytes = take-all (length bytes - 7) (drop 7 bytes) (omega (arith, length-drop 7 bytes))
-
 module _ (bytes : List ℕ) where
   -- an accepted register prints its cards and then its leaders
   pub accepted-text : (n : ℕ) {l : Leaders} → outcomeOf bytes enough ≡ outcome.Accepted l → headerOf bytes enough ≡ header.Good n → linesFrom n 0 (take (length bytes - 7) (drop 7 bytes)) ++ leaderLines l ≡ listedAfter (headerOf bytes enough) bytes
   unfolding outcomeOf cardsOf
   accepted-text n {l} q e =
-      ap (λ y. linesFrom n 0 y ++ leaderLines l) (behind bytes)
+      ap (λ y. linesFrom n 0 y ++ leaderLines l) (behind-header bytes)
       ∙ (accepted-lines n (drop 7 bytes) (cardsOf n bytes) refl (ap (λ h. afterHeader h bytes) (sym e) ∙ q)
       ∙ ap (λ h. listedAfter h bytes) (sym e))
 

@@ -2,8 +2,7 @@
 -- Assumes nothing.
 use Prim.Native.Nat.{ℕ, zero, suc, _+_, _-_, _*_, _≤_}
 use native.Mathlib.Omega.{arith}
-use native.Mathlib.Nat.{zero-add}
-use mathlib.Core.Path.{_≡_, _∙_, refl, ap, ap₂, sym, subst}
+use mathlib.Core.Path.{_≡_, _∙_, refl, ap, sym, subst}
 use mathlib.Core.List.{List, [], _∷_, _++_}
 use lib.ListN.{length, take, drop, length-append, length-take, length-drop}
 use lib.Seq.{sets, take-all, take-at}
@@ -148,8 +147,8 @@ all-copied n bytes out own held x l next after e q f w h k =
     ∙ copied-answers n bytes out own (cardsFrom n 0 0 bytes) refl (sym (all-result n bytes out x e) ∙ q) h k)
 
 -- what stands behind the header, as the code takes it
-behind : (bytes : List ℕ) → take (length bytes - 7) (drop 7 bytes) ≡ drop 7 bytes
-behind bytes = take-all (length bytes - 7) (drop 7 bytes) (omega (arith, length-drop 7 bytes))
+pub behind-header : (bytes : List ℕ) → take (length bytes - 7) (drop 7 bytes) ≡ drop 7 bytes
+behind-header bytes = take-all (length bytes - 7) (drop 7 bytes) (omega (arith, length-drop 7 bytes))
 
 -- the whole call, from its header on
 module _ (bytes : List ℕ) (room : ℕ) (h : Header) (e : h ≡ headerOf bytes room) where
@@ -161,7 +160,7 @@ module _ (bytes : List ℕ) (room : ℕ) (h : Header) (e : h ≡ headerOf bytes 
   pub header-good : (n : ℕ) (r : Outcome) → h ≡ header.Good n → r ≡ resultOf (cardsFrom n 0 0 (take (length bytes - 7) (drop 7 bytes))) → r ≡ outcomeOf bytes room
   unfolding outcomeOf cardsOf
   header-good n r q g =
-      g ∙ (ap (λ y. resultOf (cardsFrom n 0 0 y)) (behind bytes) ∙ ap (λ y. afterHeader y bytes) (sym q ∙ e))
+      g ∙ (ap (λ y. resultOf (cardsFrom n 0 0 y)) (behind-header bytes) ∙ ap (λ y. afterHeader y bytes) (sym q ∙ e))
 
   pub header-surveyed : (n : ℕ) (r : Outcome) → h ≡ header.Good n → r ≡ surveyFrom n 0 0 (take (length bytes - 7) (drop 7 bytes)) noLeaders → r ≡ outcomeOf bytes room
   header-surveyed n r q g = header-good n r q (all-result n (take (length bytes - 7) (drop 7 bytes)) [] r g)
@@ -196,4 +195,4 @@ module _ (bytes out : List ℕ) (h : Header) (e : h ≡ headerOf bytes (length o
   pub header-filled : (n : ℕ) (after : List ℕ) → h ≡ header.Good n → after ≡ filledWith (cardsFrom n 0 0 (take (length bytes - 7) (drop 7 bytes))) out → after ≡ bufferOf bytes out
   unfolding bufferOf cardsOf
   header-filled n after q g =
-      g ∙ (ap (λ y. filledWith (cardsFrom n 0 0 y) out) (behind bytes) ∙ ap (λ y. filledAfter y bytes out) (sym q ∙ e))
+      g ∙ (ap (λ y. filledWith (cardsFrom n 0 0 y) out) (behind-header bytes) ∙ ap (λ y. filledAfter y bytes out) (sym q ∙ e))

@@ -1,7 +1,7 @@
 -- What a register is: its cards in turn, what the call answers, and what it leaves in the answer buffer. The contracts of the
 -- entry points cite this file; how the code walks over the cards stands in `walk/specs/Walks.antt`.
 -- Assumes nothing.
-use Prim.Native.Nat.{ℕ, zero, suc, _+_, _*_}
+use Prim.Native.Nat.{ℕ, zero, suc, _+_}
 use mathlib.Core.List.{List, [], _∷_, _++_}
 use lib.ListN.{length, take, drop}
 use Rattle.refusals.specs.declared.Refusal.{Refusal}
@@ -9,7 +9,6 @@ use Rattle.card.specs.declared.Answer.{Answer}
 use Rattle.card.specs.declared.Answered.{Answered}
 use Rattle.card.specs.declared.Answered.the-variants as answered
 use Rattle.card.specs.Answers.{answerOf}
-use Rattle.farthest.specs.declared.Leaders.{Leaders}
 use Rattle.farthest.specs.Farthest.{leadersOf}
 use Rattle.encode.specs.Bytes.{answerBytes}
 use Rattle.header.specs.declared.Header.{Header}

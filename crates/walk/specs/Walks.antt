@@ -1,7 +1,7 @@
 -- The two walks of the code over a register's cards, as they go: the first keeps the leaders, the second writes the answers.
 -- They serve the proofs; what a register is stands in `register/specs/Register.antt`, and the laws beside it join the two.
 -- Assumes nothing.
-use Prim.Native.Nat.{ℕ, zero, suc, _+_, _*_}
+use Prim.Native.Nat.{ℕ, zero, suc, _*_}
 use mathlib.Core.List.{List}
 use lib.ListN.{take, drop}
 use lib.Seq.{sets}

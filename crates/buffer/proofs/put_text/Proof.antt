@@ -4,7 +4,7 @@
 use mathlib.Core.Path.{_≡_}
 use Prim.Native.Nat.{_+_, _-_, _≤_}
 use native.Mathlib.Omega.{arith}
-use lib.ListN.{length, drop, length-set}
+use lib.ListN.{length, drop}
 use lib.Seq.{sets}
 use borrow.Author.Needs.{needs}
 use Rattle.buffer.proofs.Turns.{word-start, word-turn, word-end}

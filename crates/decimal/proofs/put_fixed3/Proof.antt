@@ -1,6 +1,5 @@
 -- `decimal::put_fixed3` meets its contract: the wholes, the dot and three decimals.
 -- Assumes nothing.
-use native.Mathlib.Omega.{arith}
 use borrow.Author.Needs.{needs}
 use Rattle.decimal.proofs.Turns.{dotted}
 use Rattle.decimal.proofs.put_fixed3.Statement.{statement}
