@@ -2,7 +2,10 @@
 -- definition says. `search (ends, needs)` puts them to use.
 -- Assumes nothing.
 use Prim.Native.Nat.{ℕ, _≤_}
-use mathlib.Core.Path.{_≡_, _∙_, ap, sym, subst}
+use mathlib.Core.Path.{_≡_, _∙_, refl, ap, sym, subst}
+use mathlib.Core.List.{[], _∷_}
+use types.Run.{OneOf, miss}
+use denote.Enum.Declared.{tagOf}
 use mathlib.Core.Bool.{Bool, true, false}
 use borrow.Author.Tests.{eq-eqb, ne-eqb}
 use Rattle.exhibits.specs.declared.Plume.{Plume}
@@ -15,6 +18,8 @@ use Rattle.units.specs.declared.PoundsPerMinute.{PoundsPerMinute}
 use Rattle.units.specs.declared.SquareFeet.{SquareFeet}
 use Rattle.release.specs.Pool.{poolArea, gasRate, poolRate, atMostTenMinutes, isBuilding}
 use Rattle.scenario.specs.declared.State.{State}
+use Rattle.scenario.specs.declared.State.the-variants as state
+use Rattle.scenario.proofs.State.{the-type}
 use Rattle.scenario.specs.declared.Planned.{Planned}
 use Rattle.scenario.specs.declared.Planned.the-variants as planned
 use Rattle.scenario.specs.declared.ToxicCard.{ToxicCard}
@@ -78,6 +83,20 @@ in-gas-state s t card g r e q = q ∙ ap (λ x. gasPlan x card g) (sym e)
 
 pub in-liquid-state : (s t : State) (card : ToxicCard) (l : Liquid) (r : Planned) → s ≡ t → r ≡ liquidPlan t card l → r ≡ liquidPlan s card l
 in-liquid-state s t card l r e q = q ∙ ap (λ x. liquidPlan x card l) (sym e)
+
+-- a liquid in a state of a gas is refused, whichever of the three it is
+pub no-liquid : (s : State) (card : ToxicCard) (l : Liquid) → OneOf (0 ∷ 1 ∷ 2 ∷ []) (tagOf the-type s) → planned.Mismatch ≡ liquidPlan s card l
+no-liquid state.Gas card l k = refl
+no-liquid state.Pressurized card l k = refl
+no-liquid state.Refrigerated card l k = refl
+no-liquid state.Liquid card l k = absurd (miss (0 ∷ 1 ∷ 2 ∷ []) 3 tt k)
+
+-- a gas that stands under its own pressure, in either of its states
+pub in-freed-state : (s : State) (card : ToxicCard) (g : Gas) (r : Planned) → OneOf (0 ∷ 1 ∷ []) (tagOf the-type s) → r ≡ undiked (card .containment) (vaporOf card (g .endpoint) (g .plume)) → r ≡ gasPlan s card g
+in-freed-state state.Gas card g r k q = q
+in-freed-state state.Pressurized card g r k q = q
+in-freed-state state.Refrigerated card g r k q = absurd (miss (0 ∷ 1 ∷ []) 2 tt k)
+in-freed-state state.Liquid card g r k q = absurd (miss (0 ∷ 1 ∷ []) 3 tt k)
 
 -- the factors found are within the limits
 pub found-within : (l : Liquid) (k : Column) → Within (variants.OfLiquid l) → {f : Factors} {lf tcf : ℕ} → f ≡ factorsOf l k → f ≡ Read lf tcf → (lf ≤ 1_000_000) × (tcf ≤ 1_000)

@@ -202,8 +202,7 @@ fn gas_plan(card: ToxicCard, gas: Gas) -> Planned
 {
     let state = card.state;
     match state {
-        State::Gas => freed(card, gas),
-        State::Pressurized => freed(card, gas),
+        State::Gas | State::Pressurized => freed(card, gas),
         State::Refrigerated => refrigerated(card, gas),
         State::Liquid => Planned::Mismatch,
     }
@@ -251,9 +250,7 @@ fn liquid_plan(card: ToxicCard, liquid: Liquid) -> Planned
 {
     let state = card.state;
     match state {
-        State::Gas => Planned::Mismatch,
-        State::Pressurized => Planned::Mismatch,
-        State::Refrigerated => Planned::Mismatch,
+        State::Gas | State::Pressurized | State::Refrigerated => Planned::Mismatch,
         State::Liquid => spilled(card, liquid),
     }
 }
