@@ -47,14 +47,11 @@ use Rattle.card.specs.declared.Answered.{Answered}
 use Rattle.card.specs.declared.Answered.the-variants as answered
 use Rattle.card.specs.Answers.{readToxic, plannedAnswer, readFlammable, answerFor, answerOf}
 use Rattle.conditions.specs.Conditions.{anyOf, ofGas, ofLiquid, ofTable13, badForm, badCas, badRange, aboveFifty, cellRead, withoutData, mismatched, cardFrom, beyondPlan, beyondIn, beyond, ofCard}
-use Rattle.conditions.specs.First.{Verdict, passed, refused, pick, firstOf}
+use Rattle.conditions.specs.First.{clash, Verdict, passed, refused, pick, firstOf}
 use Rattle.conditions.specs.Form.{isRefused, form-is}
 use Rattle.conditions.specs.Substances.{Seen, a-gas, a-liquid, neither, seen}
 use Rattle.conditions.specs.Mismatch.{isMismatch, mismatch-is}
 use Rattle.conditions.specs.Beyond.{isBeyond, reading-beyond, blast-beyond}
-
-clash : {A : Type 0} → _≡_ {A = ℕ} 0 1 → A
-clash z = absurd (omega arith)
 
 -- an answer, or a refusal
 abbrev pub verdictOf : Answered → Verdict

@@ -41,12 +41,9 @@ use Rattle.register.specs.Register.{Cards, answers, sent-back, joined, then, ca
 use Rattle.ordering.specs.Claim.{cardAt}
 use Rattle.ordering.specs.Found.{header-count}
 use Rattle.conditions.specs.Conditions.{Condition, condition, only, ofRegister, ofCard, numberBefore, conditionsAt}
-use Rattle.conditions.specs.First.{Verdict, passed, refused, pick, firstOf, Leading, holdsIn, Names, none-holds, first-leads, names-one, after, first-append, first-here, first-elsewhere}
+use Rattle.conditions.specs.First.{clash, Verdict, passed, refused, pick, firstOf, Leading, holdsIn, Names, none-holds, first-leads, names-one, after, first-append, first-here, first-elsewhere}
 use Rattle.conditions.specs.Cards.{verdictOf, card-verdict}
 use Rattle.conditions.specs.Claim.{Holds, First, RefusedExactly}
-
-clash : {A : Type 0} → _≡_ {A = ℕ} 0 1 → A
-clash z = absurd (omega arith)
 
 -- ---- one card: an answer has the card's number
 

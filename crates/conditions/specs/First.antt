@@ -10,6 +10,10 @@ use Rattle.search.specs.Rising.{both}
 use Rattle.refusals.specs.declared.Refusal.{Refusal}
 use Rattle.conditions.specs.Conditions.{Condition, condition, only}
 
+-- two numbers that differ are not equal: how a case that cannot be is left
+pub clash : {A : Type 0} → _≡_ {A = ℕ} 0 1 → A
+clash z = absurd (omega arith)
+
 -- whether the condition in a line holds, lines counted from 0; behind the last line none does
 abbrev pub holdsIn : List Condition → ℕ → Bool
 holdsIn [] line = false
@@ -41,9 +45,6 @@ pub record Leading (cs : List Condition) (r : Refusal) : Type 0 where
   pub names : Names cs line r
   pub holds : holdsIn cs line ≡ true
   pub above : (i : ℕ) → i < line → holdsIn cs i ≡ true → ⊥
-
-clash : {A : Type 0} → _≡_ {A = ℕ} 0 1 → A
-clash z = absurd (omega arith)
 
 -- where none is first, none holds
 pub none-holds : (cs : List Condition) → firstOf cs ≡ passed → (i : ℕ) → holdsIn cs i ≡ true → ⊥

@@ -28,13 +28,10 @@ use Rattle.form.specs.declared.Standing.{Standing}
 use Rattle.form.specs.declared.Shape.{Shape}
 use Rattle.form.specs.declared.Shape.the-variants as shape
 use Rattle.form.specs.Form.{stateOf, groundOf, openOf, heldOf, heatFits, shapedHeat, shapedHeld, shapedState, shapedBlank, shapeOf, blank}
-
 use Rattle.conditions.specs.Conditions.{anyOf, unlisted, filled, badToxic, badFlammable, badForm}
+use Rattle.conditions.specs.First.{clash}
 
-clash : {A : Type 0} → _≡_ {A = ℕ} 0 1 → A
-clash z = absurd (omega arith)
-
-state-is : {a b : State} → stateByte.Is a ≡ stateByte.Is b → a ≡ b
+pub state-is : {a b : State} → stateByte.Is a ≡ stateByte.Is b → a ≡ b
 state-is e = cc
 
 -- what the form refuses

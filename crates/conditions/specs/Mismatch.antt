@@ -51,11 +51,9 @@ use Rattle.form.specs.Form.{stateOf, openOf, heldOf}
 use Rattle.meaning.specs.Reading.{isListed, signed}
 use Rattle.form.specs.Inverse.{Stands}
 use Rattle.conditions.specs.Conditions.{anyOf, ofGas, ofLiquid, columnRead, cellsOf, cellRead, withoutData, aboveFifty, mismatched, cardFrom}
-use Rattle.conditions.specs.Form.{no-state}
+use Rattle.conditions.specs.First.{clash}
+use Rattle.conditions.specs.Form.{state-is, no-state}
 use Rattle.conditions.specs.Substances.{Seen, a-gas, a-liquid, neither, seen}
-
-clash : {A : Type 0} → _≡_ {A = ℕ} 0 1 → A
-clash z = absurd (omega arith)
 
 -- the column that is read is the closest, at every tenth of a degree up to 50.0
 closest-at : (n t k : ℕ) → closestFor n t ≡ true → k < n → placeIn (columnOf (pos (t + k))) ≡ closest larger (t + k) columns
@@ -141,9 +139,6 @@ isDike (Building b) = false
 
 held-is : {a b : Containment} → held.Is a ≡ held.Is b → a ≡ b
 held-is e = cc
-
-state-is : {a b : State} → stateByte.Is a ≡ stateByte.Is b → a ≡ b
-state-is e = cc
 
 -- byte 3 is 1 exactly for a dike
 dike-byte : (b area wall : ℕ) (c : Containment) → heldOf b area wall ≡ held.Is c → eqb b 1 ≡ isDike c

@@ -27,9 +27,7 @@ use Rattle.exhibits.specs.PrintedB1.{b1}
 use Rattle.exhibits.specs.PrintedB2.{b2}
 use Rattle.exhibits.specs.Exhibits.{gasCas, liquidCas, gasIn, liquidIn, factorsOf, toxicOf}
 use Rattle.conditions.specs.Conditions.{columnRead, withoutData}
-
-clash : {A : Type 0} → _≡_ {A = ℕ} 0 1 → A
-clash z = absurd (omega arith)
+use Rattle.conditions.specs.First.{clash}
 
 -- what the exhibits say of a CAS number, and in which of them it stands
 pub data Seen (cas : ℕ) : Toxic → Type 0 where

@@ -8,7 +8,7 @@ use mathlib.Core.List.{List, [], _∷_, map}
 use mathlib.Core.Bool.{Bool, true}
 use lib.ListN.{getD, List·getD-eq-default}
 use Rattle.search.specs.Rising.{both}
-use Rattle.search.specs.Places.{every}
+use Rattle.search.specs.PlaceLaws.{every-at}
 use Rattle.search.specs.Laws.{both-true}
 use Rattle.units.specs.declared.Miles.{Miles}
 use Rattle.units.specs.declared.Reading.the-variants.{Distance, Beyond}
@@ -25,15 +25,9 @@ inOrder (grid rates endpoints rows) = both (climbs (thousandths rates)) (climbs 
 inOrder (lines table) = climbs (thousandths (map rateOf table))
 inOrder unprinted = true
 
-order-at : (ts : List Table) → every inOrder ts ≡ true → (n : ℕ) → inOrder (getD ts n unprinted) ≡ true
-unfolding inOrder
-order-at [] e n = refl
-order-at (t ∷ rest) e zero = both-true (inOrder t) (every inOrder rest) e .0
-order-at (t ∷ rest) e (suc n) = order-at rest (both-true (inOrder t) (every inOrder rest) e .1) n
-
 pub in-order : (n : ℕ) → inOrder (getD tables n unprinted) ≡ true
 unfolding inOrder joined climbs climbsFrom thousandths tables
-in-order n = order-at tables refl n
+in-order n = every-at inOrder tables unprinted refl refl n
 
 table-mono : (t : Table) (g : Ground) (e r s : ℕ) (d f : Miles) → inOrder t ≡ true → r ≤ s
     → readIn t g r e ≡ Distance d → readIn t g s e ≡ Distance f → d .0 ≤ f .0
