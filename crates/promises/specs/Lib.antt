@@ -1,2 +1,3 @@
 pub mod Buffer
 pub mod Starred
+pub mod SentBack

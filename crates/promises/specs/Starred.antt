@@ -209,7 +209,7 @@ defined r =
     }
 
 -- all that the rows compute with
-computed : Unit {0}
+unfoldable pub computed : Unit {0}
 unfolding strung twoBytes fourBytes outcomeOf cardsOf cardsFrom headerOf badLength badVersion badCount badBuffer leadersOf leadersFrom leadersAfter answerOf fieldsOf badArea badHeat badNumber badPounds badWall blank boundsOf flammableOf groundOf heldOf meaningOf openOf shapeOf signed stateOf toxicMeaning factorsOf toxicOf b1 b2 b4 firstAtLeast among lookUp blastReading isFlammable rowOf entryAt quantities table13 table1 table2 table3 table4 endpoints5 endpoints6 endpoints7 endpoints8 rates5 rates6 rates7 rates8 table5 table6 table7 table8 table9 table10 table11 table12 answered apart byRange byRow closest closestColumn closestFrom closestRow distance fromColumn holding inUse larger largest lastOf markOf past ratioBelow smaller thousandths readIn readingOf tables columnOf planOf poolOf tableOf vaporOf atMostTenMinutes dikedArea poolRate
 computed = tt
 

@@ -1,0 +1,88 @@
+-- The examples of document 01's table "When a register is sent back", and the one theorem that each is sent back as its row
+-- states: the call gives its number and place, and of the conditions of that place its own is the first that holds.
+-- Assumes nothing.
+use Prim.Native.Nat.{ℕ}
+use mathlib.Core.Path.{_≡_, refl}
+use mathlib.Core.Bool.{Bool, true, false}
+use mathlib.Core.List.{List, [], _∷_, _++_, map}
+use Rattle.refusals.specs.Numbers.{numberOf}
+use Rattle.walk.specs.declared.Outcome.{Outcome}
+use Rattle.walk.specs.declared.Outcome.the-variants as outcome
+use Rattle.register.specs.Register.{outcomeOf}
+use Rattle.conditions.specs.Conditions.{Condition, condition, unlisted, filled, badToxic, badFlammable, badForm, ofGas, ofLiquid, ofTable13, badCas, badRange, mismatched, aboveLast, lastInUse, beyondTable, beyond, ofRegister, ofCard, only, conditionsAt}
+use Rattle.promises.specs.Starred.{cardOf, registerOf, chlorine, ammonia, bromine, propane, rural, urban, in-open, in-dike, computed}
+
+-- a register, the length of the answer buffer, and the number and place that it is sent back with
+pub record Example : Type 0 where
+  pub register : List ℕ
+  pub room : ℕ
+  pub number : ℕ
+  pub place : ℕ
+
+abbrev pub example : ℕ → ℕ → ℕ → List ℕ → Example
+example number place room register = record { register = register; room = room; number = number; place = place }
+
+-- one card in a register, with room for its answer
+abbrev pub card : ℕ → List ℕ → Example
+card number bytes = example number 0 16 (registerOf (bytes ∷ []))
+
+unfoldable pub examples : List Example
+examples =
+    -- 1: "hex 00000008 01 0000"
+    example 1 0 0 (0 ∷ 0 ∷ 0 ∷ 8 ∷ 1 ∷ 0 ∷ 0 ∷ [])
+    -- 2: "hex 00000007 02 0000"
+    ∷ example 2 0 0 (0 ∷ 0 ∷ 0 ∷ 7 ∷ 2 ∷ 0 ∷ 0 ∷ [])
+    -- 3: "hex 00000007 01 0001"
+    ∷ example 3 0 16 (0 ∷ 0 ∷ 0 ∷ 7 ∷ 1 ∷ 0 ∷ 1 ∷ [])
+    -- 4: "one card, 15 bytes"
+    ∷ example 4 0 15 (registerOf (propane 20_000 1 ∷ []))
+    -- 5: "numbers 4, 4"
+    ∷ example 5 1 32 (registerOf (propane 20_000 4 ∷ propane 20_000 4 ∷ []))
+    -- 6: "kind 3"
+    ∷ card 6 (cardOf 3 0 0 0 74986 10_000 0 0 0 1)
+    -- 7: "toxic, 74986"
+    ∷ card 7 (cardOf 1 2 rural in-open 74986 10_000 0 0 0 1)
+    -- 8: "0 lb"
+    ∷ card 8 (chlorine rural in-open 0 0 1)
+    -- 9: "wall 10,001"
+    ∷ card 9 (bromine in-dike 100 10_001 1)
+    -- 10: "chlorine, state 4"
+    ∷ card 10 (cardOf 1 4 rural in-open 7782505 2_500 0 0 250 1)
+    -- 11: "ammonia, state 3, urban, open, 7,500,010 lb"
+    ∷ card 11 (ammonia 7_500_010 1)
+    ∷ []
+
+-- the number and the place of a call that is sent back
+abbrev pub sentBack : Outcome → List ℕ
+sentBack (outcome.Accepted l) = []
+sentBack (outcome.Refused r place) = numberOf r ∷ place ∷ []
+
+-- the number in front, where a condition holds
+abbrev pub kept : Bool → ℕ → List ℕ → List ℕ
+kept true n rest = n ∷ rest
+kept false n rest = rest
+
+-- the numbers of the conditions that hold
+unfoldable pub holding : List Condition → List ℕ
+holding [] = []
+holding (condition r b ∷ rest) = kept b (numberOf r) (holding rest)
+
+-- the first of some numbers
+abbrev pub firstNumber : List ℕ → List ℕ
+firstNumber [] = []
+firstNumber (n ∷ rest) = n ∷ []
+
+-- what the definitions say of an example: the number and place that its call gives, and the first condition that holds there
+abbrev pub defined : Example → List ℕ
+defined e =
+    sentBack (outcomeOf (e .register) (e .room))
+    ++ firstNumber (holding (conditionsAt (e .register) (e .room) (e .place)))
+
+-- what its row states
+abbrev pub stated : Example → List ℕ
+stated e = e .number ∷ e .place ∷ e .number ∷ []
+
+-- Every example of the table.
+pub sent-back : map defined examples ≡ map stated examples
+unfolding examples computed holding conditionsAt only ofRegister ofCard badForm badToxic badFlammable unlisted filled badCas ofGas ofLiquid ofTable13 badRange mismatched beyond beyondTable aboveLast lastInUse
+sent-back = refl
