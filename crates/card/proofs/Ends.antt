@@ -11,7 +11,7 @@ use Rattle.units.specs.declared.Reading.the-variants as reading
 use Rattle.scenario.specs.declared.ToxicCard.{ToxicCard}
 use Rattle.scenario.specs.declared.Scenario.{Scenario}
 use Rattle.scenario.specs.declared.Planned.{Planned}
-use Rattle.scenario.specs.Plan.{planOf, Limits}
+use Rattle.scenario.specs.Plan.{Limits}
 use Rattle.fields.specs.declared.Fields.{Fields}
 use Rattle.fields.specs.Layout.{fieldsOf}
 use Rattle.meaning.specs.declared.Meaning.{Meaning}

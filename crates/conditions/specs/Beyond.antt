@@ -1,18 +1,18 @@
 -- Condition 11 is what a table does not answer.
 -- Assumes nothing.
-use Prim.Native.Nat.{ℕ, zero, suc, _+_, _-_, _*_, _/_, _≤_, _<_, suc-le-suc}
-use native.Mathlib.Nat.{le-refl, le-trans}
+use Prim.Native.Nat.{ℕ, suc, _+_, _-_, _*_, _/_, _≤_, _<_}
+use native.Mathlib.Nat.{le-refl}
 use native.Mathlib.Omega.{arith}
-use mathlib.Core.Path.{_≡_, _∙_, refl, sym, ap, ap₂, subst}
+use mathlib.Core.Path.{_≡_, _∙_, refl, sym, ap, subst}
 use mathlib.Core.Bool.{Bool, true, false, not}
 use mathlib.Core.List.{List, [], _∷_, map}
 use mathlib.Core.Logic.{⊎-elim}
 use lib.Dec.{eqb, ltb}
 use lib.ListN.{getD, length, length-map}
 use borrow.Author.Tests.{eqb-true, ltb-true, lt-ltb, le-ltb}
-use Rattle.search.specs.Rising.{both, firstAtLeast, rises}
-use Rattle.search.specs.Laws.{both-true, lt-or-ge, first-on, first-mono, first-reaches, first-within, rising}
-use Rattle.search.specs.Places.{among, every, lookUp}
+use Rattle.search.specs.Rising.{both, firstAtLeast}
+use Rattle.search.specs.Laws.{both-true, lt-or-ge, first-on, first-mono, first-reaches, rising}
+use Rattle.search.specs.Places.{among}
 use Rattle.search.specs.PlaceLaws.{look-listed, every-at}
 use Rattle.units.specs.declared.Reading.{Reading}
 use Rattle.units.specs.declared.Reading.the-variants as reading

@@ -30,7 +30,6 @@ use Rattle.buffer.specs.Numbers.{byteAt}
 use Rattle.fields.specs.Layout.{fieldsOf}
 use Rattle.refusals.specs.declared.Refusal.{Refusal}
 use Rattle.refusals.specs.declared.Refusal.the-variants as refusal
-use Rattle.refusals.specs.Numbers.{numberOf}
 use Rattle.form.specs.declared.Standing.{Standing}
 use Rattle.form.specs.declared.Shape.{Shape}
 use Rattle.form.specs.declared.Shape.the-variants as shape

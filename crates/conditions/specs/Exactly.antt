@@ -5,12 +5,12 @@ use native.Mathlib.Nat.{le-refl, not-suc-le-zero}
 use native.Mathlib.Omega.{arith}
 use mathlib.Core.Path.{_≡_, _∙_, refl, sym, ap, subst}
 use mathlib.Core.Bool.{Bool, true, false}
-use mathlib.Core.List.{List, [], _∷_, _++_}
+use mathlib.Core.List.{List}
 use mathlib.Core.Logic.{_⊎_, inl, inr, ⊎-elim}
 use lib.Dec.{eqb, ltb}
-use lib.ListN.{take, drop}
+use lib.ListN.{drop}
 use lib.Seq.{drop-drop}
-use borrow.Author.Tests.{lt-ltb, le-ltb, ne-eqb}
+use borrow.Author.Tests.{lt-ltb, le-ltb}
 use Rattle.search.specs.Laws.{lt-or-ge}
 use Rattle.fields.specs.Layout.{fieldsOf}
 use Rattle.refusals.specs.declared.Refusal.{Refusal}
@@ -41,7 +41,7 @@ use Rattle.register.specs.Register.{Cards, answers, sent-back, joined, then, ca
 use Rattle.ordering.specs.Claim.{cardAt}
 use Rattle.ordering.specs.Found.{header-count}
 use Rattle.conditions.specs.Conditions.{Condition, condition, only, ofRegister, ofCard, numberBefore, conditionsAt}
-use Rattle.conditions.specs.First.{clash, Verdict, passed, refused, pick, firstOf, Leading, holdsIn, Names, none-holds, first-leads, names-one, after, first-append, first-here, first-elsewhere}
+use Rattle.conditions.specs.First.{clash, Verdict, passed, refused, pick, firstOf, Names, none-holds, first-leads, names-one, after, first-append, first-here, first-elsewhere}
 use Rattle.conditions.specs.Cards.{verdictOf, card-verdict}
 use Rattle.conditions.specs.Claim.{Holds, First, RefusedExactly}
 

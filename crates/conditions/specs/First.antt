@@ -1,12 +1,11 @@
 -- The first of some conditions that holds: one general law for every list of them.
 -- Assumes nothing.
-use Prim.Native.Nat.{ℕ, zero, suc, _<_, suc-le-suc}
+use Prim.Native.Nat.{ℕ, zero, suc, _<_}
 use native.Mathlib.Nat.{le-of-suc-le-suc, not-suc-le-zero}
 use native.Mathlib.Omega.{arith}
 use mathlib.Core.Path.{_≡_, _∙_, refl, sym, ap}
 use mathlib.Core.Bool.{Bool, true, false}
 use mathlib.Core.List.{List, [], _∷_, _++_}
-use Rattle.search.specs.Rising.{both}
 use Rattle.refusals.specs.declared.Refusal.{Refusal}
 use Rattle.conditions.specs.Conditions.{Condition, condition, only}
 

@@ -5,15 +5,14 @@ use native.Mathlib.Nat.{add-zero, le-of-suc-le-suc, not-suc-le-zero}
 use native.Mathlib.Omega.{arith}
 use mathlib.Core.Path.{_≡_, _∙_, refl, sym, ap, ap₂, subst}
 use mathlib.Core.Bool.{Bool, true, false, not}
-use mathlib.Core.List.{List, [], _∷_, map}
-use mathlib.Core.Logic.{⊎-elim}
-use lib.Dec.{eqb, ltb}
+use mathlib.Core.List.{List, [], _∷_}
+use lib.Dec.{eqb}
 use lib.ListN.{getD}
 use lib.IntN.{ℤ, pos, negsuc}
 use lib.Signed.{ltZ}
-use borrow.Author.Tests.{eqb-true, ne-eqb, ltb-true, ltb-false, lt-ltb, le-ltb}
+use borrow.Author.Tests.{eqb-true, ltb-false}
 use Rattle.search.specs.Rising.{both}
-use Rattle.search.specs.Laws.{both-true, lt-or-ge}
+use Rattle.search.specs.Laws.{both-true}
 use Rattle.search.specs.Places.{either, among}
 use Rattle.exhibits.specs.declared.Cell.{Cell}
 use Rattle.exhibits.specs.declared.Cell.the-variants.{Factor, Lfb, NoData}
@@ -42,7 +41,6 @@ use Rattle.factors.specs.Factors as tabled
 use Rattle.factors.specs.Columns.{columns, placeIn, closestFor, columns-closest, colder}
 use Rattle.buffer.specs.Numbers.{byteAt, twoAt, fourAt}
 use Rattle.fields.specs.Layout.{fieldsOf}
-use Rattle.form.specs.declared.StateByte.{StateByte}
 use Rattle.form.specs.declared.StateByte.the-variants as stateByte
 use Rattle.form.specs.declared.Held.{Held}
 use Rattle.form.specs.declared.Held.the-variants as held
@@ -50,7 +48,7 @@ use Rattle.form.specs.declared.Standing.{Standing}
 use Rattle.form.specs.Form.{stateOf, openOf, heldOf}
 use Rattle.meaning.specs.Reading.{isListed, signed}
 use Rattle.form.specs.Inverse.{Stands}
-use Rattle.conditions.specs.Conditions.{anyOf, ofGas, ofLiquid, columnRead, cellsOf, cellRead, withoutData, aboveFifty, mismatched, cardFrom}
+use Rattle.conditions.specs.Conditions.{anyOf, ofGas, ofLiquid, columnRead, cellRead, withoutData, aboveFifty, mismatched, cardFrom}
 use Rattle.conditions.specs.First.{clash}
 use Rattle.conditions.specs.Form.{state-is, no-state}
 use Rattle.conditions.specs.Substances.{Seen, a-gas, a-liquid, neither, seen}

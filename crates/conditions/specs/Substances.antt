@@ -1,23 +1,12 @@
 -- Condition 7 is what the exhibits list, and condition 10 what no scenario fits.
 -- Assumes nothing.
-use Prim.Native.Nat.{ℕ, zero, suc, _+_, _≤_, _<_}
-use native.Mathlib.Nat.{add-zero, le-of-suc-le-suc, not-suc-le-zero}
-use native.Mathlib.Omega.{arith}
-use mathlib.Core.Path.{_≡_, _∙_, refl, sym, ap, ap₂, subst}
+use Prim.Native.Nat.{ℕ}
+use mathlib.Core.Path.{_≡_, _∙_, refl, sym, ap, subst}
 use mathlib.Core.Bool.{Bool, true, false, not}
-use mathlib.Core.List.{List, [], _∷_, map}
-use lib.Dec.{eqb, ltb}
-use lib.ListN.{getD}
-use lib.IntN.{ℤ, pos, negsuc}
-use lib.Signed.{ltZ}
-use borrow.Author.Tests.{eqb-true, ne-eqb}
+use mathlib.Core.List.{map}
 use Rattle.search.specs.Rising.{both}
-use Rattle.search.specs.Laws.{both-true}
-use Rattle.search.specs.Places.{either, among, every, lookUp}
+use Rattle.search.specs.Places.{among, every, lookUp}
 use Rattle.search.specs.PlaceLaws.{look-none, look-found, among-one}
-use Rattle.exhibits.specs.declared.Cell.{Cell}
-use Rattle.exhibits.specs.declared.Cell.the-variants.{Factor, Lfb, NoData}
-use Rattle.exhibits.specs.declared.Corrections.{Corrections}
 use Rattle.exhibits.specs.declared.Gas as gases
 use Rattle.exhibits.specs.declared.Liquid as liquids
 use Rattle.exhibits.specs.declared.Toxic.{Toxic}
@@ -26,8 +15,6 @@ use Rattle.exhibits.specs.Printed.{GasLine, gas, LiquidLine, liquid}
 use Rattle.exhibits.specs.PrintedB1.{b1}
 use Rattle.exhibits.specs.PrintedB2.{b2}
 use Rattle.exhibits.specs.Exhibits.{gasCas, liquidCas, gasIn, liquidIn, factorsOf, toxicOf}
-use Rattle.conditions.specs.Conditions.{columnRead, withoutData}
-use Rattle.conditions.specs.First.{clash}
 
 -- what the exhibits say of a CAS number, and in which of them it stands
 pub data Seen (cas : ℕ) : Toxic → Type 0 where

@@ -3,10 +3,10 @@
 -- Assumes nothing.
 use Prim.Native.Nat.{ℕ, _+_, _*_, _≤_, _<_}
 use mathlib.Core.Path.{_≡_, refl, ap, sym, _∙_}
-use mathlib.Core.List.{List, [], _∷_, _++_, map}
-use mathlib.Core.Bool.{Bool, true, false}
+use mathlib.Core.List.{List, map}
+use mathlib.Core.Bool.{true}
 use native.Mathlib.Omega.{arith}
-use lib.Dec.{leb, eqb}
+use lib.Dec.{leb}
 use lib.ListN.{length, getD}
 use borrow.Author.Tests.{ne-eqb, leb-true}
 use Rattle.search.specs.Places.{placeOf, every, lookUp, insert, sorted}
@@ -26,7 +26,7 @@ use Rattle.exhibits.specs.PrintedB2.{b2}
 use Rattle.exhibits.specs.PrintedB4.{b4}
 use Rattle.exhibits.specs.Exhibits.{factorsOf, toxicOf}
 use Rattle.exhibits.specs.Columns.{order, toxicAt, kindOf, lfaOf, lfbOf, dfOf, endpointOf, plumeOf, correctionsOf, gasFrom, liquidFrom, denseOf, plumeFrom, codeOf, cellFrom, codesOf, cellAt}
-use Rattle.exhibits.specs.Laws.{CellWithin, Within, within, not-listed}
+use Rattle.exhibits.specs.Laws.{CellWithin, within, not-listed}
 
 size : length order ≡ 74
 unfolding order b1 b2 sorted insert

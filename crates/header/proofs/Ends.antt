@@ -2,7 +2,7 @@
 -- Assumes nothing.
 use Prim.Native.Nat.{ℕ, _+_, _*_, _≤_, _<_}
 use native.Mathlib.Omega.{arith}
-use mathlib.Core.Path.{_≡_, _∙_, refl, ap, sym, subst}
+use mathlib.Core.Path.{_≡_, _∙_, refl, ap, sym}
 use mathlib.Core.Bool.{Bool, true, false, not}
 use mathlib.Core.List.{List}
 use lib.Dec.{ltb, eqb}
@@ -12,7 +12,7 @@ use Rattle.search.specs.Places.{either}
 use Rattle.buffer.specs.Numbers.{byteAt, twoAt, fourAt}
 use Rattle.refusals.specs.declared.Refusal.the-variants as refusal
 use Rattle.header.specs.declared.Header.the-variants as header
-use Rattle.header.specs.Header.{badLength, badVersion, badCount, badBuffer, headerOf, countOf, Fitting}
+use Rattle.header.specs.Header.{badLength, badVersion, badCount, badBuffer, headerOf, Fitting}
 
 module _ (bytes : List ℕ) where
   pub length-short : length bytes < 7 → true ≡ badLength bytes

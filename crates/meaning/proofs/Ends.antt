@@ -18,6 +18,7 @@ use Rattle.units.specs.declared.Pounds.{Pounds}
 use Rattle.exhibits.specs.declared.Toxic.{Toxic}
 use Rattle.exhibits.specs.Exhibits.{toxicOf}
 use Rattle.exhibits.specs.Laws.{Within, within}
+use Rattle.scenario.specs.Plan.{Limits}
 use Rattle.blast.specs.Blast.{isFlammable}
 use Rattle.fields.specs.declared.Fields.{Fields}
 use Rattle.refusals.specs.declared.Refusal.{Refusal}
@@ -142,6 +143,13 @@ module _ (f : Fields) where
       let v : badHeat (signed (f .heat)) ≡ false = ap badHeat (sym m) ∙ (sym h ∙ u) in
       simp (p, s, x, v) (ap bounds.Within m)
 
+  -- the same where the temperature was handed on by its bits
+  pub heat-refused : (b d k : Bool) (t : ℤ) → SFits w16 t → b ≡ badPounds (f .pounds) → b ≡ false → d ≡ badArea (f .containment) (f .area) → d ≡ false → f .wall ≤ 10_000 → t ≡ signed (f .heat) → k ≡ badHeat (toZ w16 (ofZ w16 t)) → k ≡ true → bounds.Refused refusal.Range ≡ boundsOf f
+  heat-refused b d k t fits e q g r w m h u = bounds-heat b d k (toZ w16 (ofZ w16 t)) e q g r w (toZ-ofZ fits ∙ m) h u
+
+  pub heat-within : (b d k : Bool) (t : ℤ) → SFits w16 t → b ≡ badPounds (f .pounds) → b ≡ false → d ≡ badArea (f .containment) (f .area) → d ≡ false → f .wall ≤ 10_000 → t ≡ signed (f .heat) → k ≡ badHeat (toZ w16 (ofZ w16 t)) → k ≡ false → bounds.Within (toZ w16 (ofZ w16 t)) ≡ boundsOf f
+  heat-within b d k t fits e q g r w m h u = bounds-within b d k (toZ w16 (ofZ w16 t)) e q g r w (toZ-ofZ fits ∙ m) h u
+
   -- a flammable card
   pub flammable-not : (b : Bool) → b ≡ isFlammable (f .cas) → not b ≡ true → meaning.Refused refusal.Unlisted ≡ flammableOf f
   unfolding flammableOf
@@ -189,6 +197,15 @@ module _ (f : Fields) where
   toxic-limits x d t n e l m k =
       let p : f .pounds ≤ 10_000_000 = subst (BoundsLimits f) m l in
       (rw k p, subst Within (sym e) (within (f .cas)))
+
+  -- the same where the temperature was handed on by its bits
+  pub toxic-read : (x : Toxic) (standing : Standing) (b : Bool) (d : Bounds) (t : ℤ) (n : Pounds) → SFits w16 t → x ≡ toxicOf (f .cas) → b ≡ isListed x → not b ≡ false → d ≡ boundsOf f → d ≡ bounds.Within t → n .0 ≡ f .pounds → meaning.Toxic (record { cas = f .cas; entry = x; state = standing .state; ground = standing .ground; quantity = n; temperature = toZ w16 (ofZ w16 t); containment = standing .containment }) ≡ toxicMeaning (toxicOf (f .cas)) f standing
+  toxic-read x standing b d t n fits e g q h m k =
+      toxic-is x standing b d (toZ w16 (ofZ w16 t)) n e g q h (m ∙ ap bounds.Within (sym (toZ-ofZ fits))) k
+
+  pub toxic-limited : (x : Toxic) (standing : Standing) (d : Bounds) (t v : ℤ) (n : Pounds) → x ≡ toxicOf (f .cas) → BoundsLimits f d → d ≡ bounds.Within t → n .0 ≡ f .pounds → Limits (record { cas = f .cas; entry = x; state = standing .state; ground = standing .ground; quantity = n; temperature = v; containment = standing .containment })
+  toxic-limited x standing d t v n e l m k =
+      let fits = toxic-limits x d t n e l m k in record { quantity = fits .0; entry = fits .1 }
 
   -- the whole meaning
   pub meaning-number : (last : ℕ) (b : Bool) → b ≡ badNumber (f .number) last → b ≡ true → meaning.Refused refusal.Number ≡ meaningOf f last

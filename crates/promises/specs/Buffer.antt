@@ -2,10 +2,10 @@
 -- Assumes nothing.
 use Prim.Native.Nat.{ℕ, zero, suc, _+_, _-_, _*_, _≤_, _<_}
 use native.Mathlib.Omega.{arith}
-use mathlib.Core.Path.{_≡_, _∙_, refl, sym, ap, subst}
+use mathlib.Core.Path.{_≡_, _∙_, refl, sym, ap}
 use mathlib.Core.Bool.{Bool, true, false}
 use mathlib.Core.List.{List, [], _∷_, _++_, append-assoc}
-use lib.ListN.{length, getD, take, drop, List·getD-append}
+use lib.ListN.{length, getD, drop, List·getD-append}
 use lib.Seq.{getD-append-add, getD-drop}
 use borrow.Author.Tests.{le-ltb}
 use Rattle.refusals.specs.declared.Refusal.{Refusal}
@@ -14,13 +14,12 @@ use Rattle.card.specs.declared.Answer.{Answer}
 use Rattle.card.specs.declared.Answered.the-variants as answered
 use Rattle.card.specs.Answers.{answerOf}
 use Rattle.farthest.specs.declared.Leaders.{Leaders}
-use Rattle.farthest.specs.Farthest.{At, leadersOf}
+use Rattle.farthest.specs.Farthest.{At}
 use Rattle.encode.specs.Bytes.{answerBytes}
 use Rattle.encode.specs.Laws.{length-answer}
 use Rattle.header.specs.declared.Header.{Header}
 use Rattle.header.specs.declared.Header.the-variants as header
 use Rattle.header.specs.Header.{badLength, badVersion, badCount, badBuffer, headerIf, headerOf, countOf}
-use Rattle.walk.specs.declared.Outcome.{Outcome}
 use Rattle.walk.specs.declared.Outcome.the-variants as outcome
 use Rattle.register.specs.Register.{Cards, answers, sent-back, cardsFrom, cardsOf, resultOf, afterHeader, outcomeOf, bytesOf, filledWith, filledAfter, bufferOf}
 use Rattle.register.specs.Laws.{cards-count, bytes-length}

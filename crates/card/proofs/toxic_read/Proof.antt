@@ -2,27 +2,19 @@ use Rattle.card.proofs.Ends.{read-end}
 use borrow.Author.Needs.{needs}
 use Rattle.card.proofs.toxic_read.Statement.{statement}
 use Rattle.card.proofs.toxic_read.Tie as tie
-use Rattle.card.proofs.toxic_read.Reads as reads
-use Rattle.card.proofs.toxic_read.Lts as lts
-use Rattle.dispersion.proofs.read.Reads as read-reads
 
--- src/lib.rt:40:9
 read-requires : tie.Need-read-requires
 read-requires c κs = search needs
 
--- src/lib.rt:41:27
 enum-known-reading : tie.Need-enum-known-reading
 enum-known-reading c = search needs
 
--- src/lib.rt:42:34
 enum-told : tie.Need-enum-told
 enum-told c = search needs
 
--- src/lib.rt:42:9
 returns : tie.Need-returns
 returns c = search (read-end, needs)
 
--- src/lib.rt:35:1
 returns-2 : tie.Need-returns-2
 returns-2 c = search (read-end, needs)
 

@@ -1,5 +1,5 @@
 -- `dispersion::chlorine_sulfur` meets its contract: the constants are what is computed from the printed tables. Assumes nothing.
-use mathlib.Core.Path.{_≡_, refl, sym, _∙_}
+use mathlib.Core.Path.{refl, sym, _∙_}
 use native.Mathlib.Omega.{arith}
 use borrow.Author.Needs.{needs}
 use Rattle.dispersion.specs.PrintedChemical.{table11, table12}

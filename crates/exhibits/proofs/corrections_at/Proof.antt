@@ -13,31 +13,22 @@ use Rattle.exhibits.proofs.Arrays.{cells, corrections-from}
 use borrow.Author.Needs.{needs}
 use Rattle.exhibits.proofs.corrections_at.Statement.{statement}
 use Rattle.exhibits.proofs.corrections_at.Tie as tie
-use Rattle.exhibits.proofs.corrections_at.Reads as reads
-use Rattle.exhibits.proofs.corrections_at.Lts as lts
-use Rattle.exhibits.proofs.cell_in.Reads as cell-in-reads
 
--- src/lib.rt:102:15
 cell-in-requires : tie.Need-cell-in-requires
 cell-in-requires c κs = search needs
 
--- src/lib.rt:103:15
 cell-in-requires-2 : tie.Need-cell-in-requires-2
 cell-in-requires-2 c κs = search needs
 
--- src/lib.rt:104:15
 cell-in-requires-3 : tie.Need-cell-in-requires-3
 cell-in-requires-3 c κs = search needs
 
--- src/lib.rt:105:15
 cell-in-requires-4 : tie.Need-cell-in-requires-4
 cell-in-requires-4 c κs = search needs
 
--- src/lib.rt:106:15
 cell-in-requires-5 : tie.Need-cell-in-requires-5
 cell-in-requires-5 c κs = search needs
 
--- src/lib.rt:96:1
 returns : tie.Need-returns
 unfolding cells flat toxicOf lookUp factorsOf order sorted insert b1 b2 b4
 returns c =

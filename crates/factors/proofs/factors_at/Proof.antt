@@ -2,9 +2,6 @@ use Rattle.factors.proofs.Ends.{in-column}
 use borrow.Author.Needs.{needs}
 use Rattle.factors.proofs.factors_at.Statement.{statement}
 use Rattle.factors.proofs.factors_at.Tie as tie
-use Rattle.factors.proofs.factors_at.Reads as reads
-use Rattle.factors.proofs.factors_at.Lts as lts
-use Rattle.factors.proofs.of_cell.Reads as of-cell-reads
 
 enum-told : tie.Need-enum-told
 enum-told c = search needs

@@ -1,8 +1,6 @@
 use borrow.Author.Needs.{needs}
 use Rattle.factors.proofs.of_cell.Statement.{statement}
 use Rattle.factors.proofs.of_cell.Tie as tie
-use Rattle.factors.proofs.of_cell.Reads as reads
-use Rattle.factors.proofs.of_cell.Lts as lts
 
 enum-known-cell : tie.Need-enum-known-cell
 enum-known-cell c = search needs

@@ -2,8 +2,6 @@ use borrow.Author.Needs.{needs}
 use Rattle.form.proofs.Ends.{rural, urban, no-ground}
 use Rattle.form.proofs.ground_of.Statement.{statement}
 use Rattle.form.proofs.ground_of.Tie as tie
-use Rattle.form.proofs.ground_of.Reads as reads
-use Rattle.form.proofs.ground_of.Lts as lts
 
 returns : tie.Need-returns
 returns c = search (rural, needs)

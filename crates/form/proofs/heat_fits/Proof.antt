@@ -2,8 +2,6 @@ use Rattle.form.proofs.Ends.{heat-in}
 use borrow.Author.Needs.{needs}
 use Rattle.form.proofs.heat_fits.Statement.{statement}
 use Rattle.form.proofs.heat_fits.Tie as tie
-use Rattle.form.proofs.heat_fits.Reads as reads
-use Rattle.form.proofs.heat_fits.Lts as lts
 
 enum-told : tie.Need-enum-told
 enum-told c = search needs

@@ -2,10 +2,6 @@ use Rattle.form.proofs.Ends.{held-dike, held-wall, held-building, held-
 use borrow.Author.Needs.{needs}
 use Rattle.form.proofs.held_of.Statement.{statement}
 use Rattle.form.proofs.held_of.Tie as tie
-use Rattle.form.proofs.held_of.Reads as reads
-use Rattle.form.proofs.held_of.Lts as lts
-use Rattle.form.proofs.open_of.Reads as open-of-reads
-use Rattle.release.proofs.square_feet.Reads as square-feet-reads
 
 square-feet-requires : tie.Need-square-feet-requires
 square-feet-requires c κs = search needs

@@ -2,8 +2,6 @@ use Rattle.form.proofs.Ends.{blank-sum}
 use borrow.Author.Needs.{needs}
 use Rattle.form.proofs.is_blank.Statement.{statement}
 use Rattle.form.proofs.is_blank.Tie as tie
-use Rattle.form.proofs.is_blank.Reads as reads
-use Rattle.form.proofs.is_blank.Lts as lts
 
 cast-heat : tie.Need-cast-heat
 cast-heat c = search needs

@@ -2,8 +2,6 @@ use borrow.Author.Needs.{needs}
 use Rattle.form.proofs.Ends.{open-zero, open-filled}
 use Rattle.form.proofs.open_of.Statement.{statement}
 use Rattle.form.proofs.open_of.Tie as tie
-use Rattle.form.proofs.open_of.Reads as reads
-use Rattle.form.proofs.open_of.Lts as lts
 
 returns : tie.Need-returns
 returns c = search (open-zero, needs)

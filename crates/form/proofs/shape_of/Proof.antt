@@ -2,10 +2,6 @@ use Rattle.form.proofs.Ends.{shape-toxic, shape-blank, shape-filled, sh
 use borrow.Author.Needs.{needs}
 use Rattle.form.proofs.shape_of.Statement.{statement}
 use Rattle.form.proofs.shape_of.Tie as tie
-use Rattle.form.proofs.shape_of.Reads as reads
-use Rattle.form.proofs.shape_of.Lts as lts
-use Rattle.form.proofs.is_blank.Reads as is-blank-reads
-use Rattle.form.proofs.toxic_shape.Reads as toxic-shape-reads
 
 toxic-shape-requires : tie.Need-toxic-shape-requires
 toxic-shape-requires c κs = search needs

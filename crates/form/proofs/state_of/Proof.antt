@@ -2,8 +2,6 @@ use borrow.Author.Needs.{needs}
 use Rattle.form.proofs.Ends.{state-1, state-2, state-3, state-4, no-state}
 use Rattle.form.proofs.state_of.Statement.{statement}
 use Rattle.form.proofs.state_of.Tie as tie
-use Rattle.form.proofs.state_of.Reads as reads
-use Rattle.form.proofs.state_of.Lts as lts
 
 returns : tie.Need-returns
 returns c = search (state-1, needs)

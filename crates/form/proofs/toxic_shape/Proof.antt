@@ -2,12 +2,6 @@ use Rattle.form.proofs.Ends.{no-state-shape, no-held-shape, no-ground-s
 use borrow.Author.Needs.{needs}
 use Rattle.form.proofs.toxic_shape.Statement.{statement}
 use Rattle.form.proofs.toxic_shape.Tie as tie
-use Rattle.form.proofs.toxic_shape.Reads as reads
-use Rattle.form.proofs.toxic_shape.Lts as lts
-use Rattle.form.proofs.ground_of.Reads as ground-of-reads
-use Rattle.form.proofs.heat_fits.Reads as heat-fits-reads
-use Rattle.form.proofs.held_of.Reads as held-of-reads
-use Rattle.form.proofs.state_of.Reads as state-of-reads
 
 state-of-requires : tie.Need-state-of-requires
 state-of-requires c κs = search needs

@@ -2,31 +2,22 @@ use Rattle.header.proofs.Ends.{count-many, count-length}
 use borrow.Author.Needs.{needs}
 use Rattle.header.proofs.bad_count.Statement.{statement}
 use Rattle.header.proofs.bad_count.Tie as tie
-use Rattle.header.proofs.bad_count.Reads as reads
-use Rattle.header.proofs.bad_count.Lts as lts
-use Rattle.buffer.proofs.two.Reads as two-reads
 
--- src/lib.rt:32:17
 two-requires : tie.Need-two-requires
 two-requires c κs = search needs
 
--- src/lib.rt:32:17
 cast-count : tie.Need-cast-count
 cast-count c = search needs
 
--- src/lib.rt:34:9
 returns : tie.Need-returns
 returns c = search (count-many, needs)
 
--- src/lib.rt:36:27
 mul-result : tie.Need-mul-result
 mul-result c = search needs
 
--- src/lib.rt:36:23
 add-result : tie.Need-add-result
 add-result c = search needs
 
--- src/lib.rt:29:1
 returns-2 : tie.Need-returns-2
 returns-2 c = search (count-length, needs)
 

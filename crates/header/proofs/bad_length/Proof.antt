@@ -2,23 +2,16 @@ use Rattle.header.proofs.Ends.{length-short, length-field}
 use borrow.Author.Needs.{needs}
 use Rattle.header.proofs.bad_length.Statement.{statement}
 use Rattle.header.proofs.bad_length.Tie as tie
-use Rattle.header.proofs.bad_length.Reads as reads
-use Rattle.header.proofs.bad_length.Lts as lts
-use Rattle.buffer.proofs.four.Reads as four-reads
 
--- src/lib.rt:17:9
 returns : tie.Need-returns
 returns c = search (length-short, needs)
 
--- src/lib.rt:19:18
 four-requires : tie.Need-four-requires
 four-requires c κs = search needs
 
--- src/lib.rt:19:18
 cast-length : tie.Need-cast-length
 cast-length c = search needs
 
--- src/lib.rt:13:1
 returns-2 : tie.Need-returns-2
 returns-2 c = search (length-field, needs)
 

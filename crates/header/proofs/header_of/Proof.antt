@@ -2,54 +2,37 @@ use Rattle.header.proofs.Ends.{header-length, header-version, header-co
 use borrow.Author.Needs.{needs}
 use Rattle.header.proofs.header_of.Statement.{statement}
 use Rattle.header.proofs.header_of.Tie as tie
-use Rattle.header.proofs.header_of.Reads as reads
-use Rattle.header.proofs.header_of.Lts as lts
-use Rattle.buffer.proofs.two.Reads as two-reads
-use Rattle.header.proofs.bad_count.Reads as bad-count-reads
-use Rattle.header.proofs.bad_length.Reads as bad-length-reads
-use Rattle.header.proofs.bad_version.Reads as bad-version-reads
 
--- src/lib.rt:44:8
 bad-length-requires : tie.Need-bad-length-requires
 bad-length-requires c κs = search needs
 
--- src/lib.rt:45:9
 returns : tie.Need-returns
 returns c = search (header-length, needs)
 
--- src/lib.rt:47:8
 bad-version-requires : tie.Need-bad-version-requires
 bad-version-requires c κs = search needs
 
--- src/lib.rt:48:9
 returns-2 : tie.Need-returns-2
 returns-2 c = search (header-version, needs)
 
--- src/lib.rt:50:8
 bad-count-requires : tie.Need-bad-count-requires
 bad-count-requires c κs = search needs
 
--- src/lib.rt:51:9
 returns-3 : tie.Need-returns-3
 returns-3 c = search (header-count, needs)
 
--- src/lib.rt:53:17
 two-requires : tie.Need-two-requires
 two-requires c κs = search needs
 
--- src/lib.rt:53:17
 cast-count : tie.Need-cast-count
 cast-count c = search needs
 
--- src/lib.rt:54:15
 mul-if4 : tie.Need-mul-if4
 mul-if4 c = search needs
 
--- src/lib.rt:55:9
 returns-4 : tie.Need-returns-4
 returns-4 c = search (header-buffer, needs)
 
--- src/lib.rt:40:1
 returns-5 : tie.Need-returns-5
 returns-5 c = search (header-good, header-fits, needs)
 

@@ -6,24 +6,17 @@ use Rattle.meaning.proofs.Ends.{heat-low, heat-high}
 use borrow.Author.Needs.{needs}
 use Rattle.meaning.proofs.bad_heat.Statement.{statement}
 use Rattle.meaning.proofs.bad_heat.Tie as tie
-use Rattle.meaning.proofs.bad_heat.Reads as reads
-use Rattle.meaning.proofs.bad_heat.Lts as lts
-use Rattle.factors.proofs.below.Reads as below-reads
 
--- src/lib.rt:242:8
 below-requires : tie.Need-below-requires
 below-requires c κs = search needs
 
--- src/lib.rt:245:9
 below-requires-2 : tie.Need-below-requires-2
 below-requires-2 c κs = search needs
 
--- src/lib.rt:239:1
 returns : tie.Need-returns
 returns c =
     heat-low (c .before .before .args .tenths) (turn (λ z. ltZ z (negsuc 499)) (c .before .before .fits .tenths) (c .before .below .ensures) (c .if1 .taken))
 
--- src/lib.rt:239:1
 returns-2 : tie.Need-returns-2
 returns-2 c =
     let f = c .before .before .before .fits .tenths in

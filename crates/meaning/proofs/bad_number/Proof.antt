@@ -2,14 +2,10 @@ use borrow.Author.Needs.{needs}
 use Rattle.meaning.proofs.Ends.{number-zero, number-last}
 use Rattle.meaning.proofs.bad_number.Statement.{statement}
 use Rattle.meaning.proofs.bad_number.Tie as tie
-use Rattle.meaning.proofs.bad_number.Reads as reads
-use Rattle.meaning.proofs.bad_number.Lts as lts
 
--- src/lib.rt:219:1
 returns : tie.Need-returns
 returns c = search (number-zero, needs)
 
--- src/lib.rt:219:1
 returns-2 : tie.Need-returns-2
 returns-2 c = search (number-last, needs)
 

@@ -2,14 +2,10 @@ use borrow.Author.Needs.{needs}
 use Rattle.meaning.proofs.Ends.{pounds-zero, pounds-many}
 use Rattle.meaning.proofs.bad_pounds.Statement.{statement}
 use Rattle.meaning.proofs.bad_pounds.Tie as tie
-use Rattle.meaning.proofs.bad_pounds.Reads as reads
-use Rattle.meaning.proofs.bad_pounds.Lts as lts
 
--- src/lib.rt:225:1
 returns : tie.Need-returns
 returns c = search (pounds-zero, needs)
 
--- src/lib.rt:225:1
 returns-2 : tie.Need-returns-2
 returns-2 c = search (pounds-many, needs)
 

@@ -2,54 +2,37 @@ use Rattle.meaning.proofs.Ends.{meaning-number, meaning-shape}
 use borrow.Author.Needs.{needs}
 use Rattle.meaning.proofs.meaning_of.Statement.{statement}
 use Rattle.meaning.proofs.meaning_of.Tie as tie
-use Rattle.meaning.proofs.meaning_of.Reads as reads
-use Rattle.meaning.proofs.meaning_of.Lts as lts
-use Rattle.meaning.proofs.bad_number.Reads as bad-number-reads
-use Rattle.meaning.proofs.flammable_meaning.Reads as flammable-meaning-reads
-use Rattle.form.proofs.shape_of.Reads as shape-of-reads
-use Rattle.meaning.proofs.toxic_meaning.Reads as toxic-meaning-reads
 
--- src/lib.rt:352:8
 bad-number-requires : tie.Need-bad-number-requires
 bad-number-requires c κs = search needs
 
--- src/lib.rt:353:9
 returns : tie.Need-returns
 returns c = search (meaning-number, needs)
 
--- src/lib.rt:355:9
 shape-of-requires : tie.Need-shape-of-requires
 shape-of-requires c κs = search needs
 
--- src/lib.rt:357:22
 enum-known-shape : tie.Need-enum-known-shape
 enum-known-shape c = search needs
 
--- src/lib.rt:357:35
 toxic-meaning-requires : tie.Need-toxic-meaning-requires
 toxic-meaning-requires c κs = search needs
 
--- src/lib.rt:358:29
 enum-told : tie.Need-enum-told
 enum-told c = search needs
 
--- src/lib.rt:358:29
 flammable-meaning-requires : tie.Need-flammable-meaning-requires
 flammable-meaning-requires c κs = search needs
 
--- src/lib.rt:359:24
 enum-known-shape-2 : tie.Need-enum-known-shape-2
 enum-known-shape-2 c = search needs
 
--- src/lib.rt:348:1
 returns-2 : tie.Need-returns-2
 returns-2 c = search (meaning-shape, needs)
 
--- src/lib.rt:348:1
 returns-3 : tie.Need-returns-3
 returns-3 c = search (meaning-shape, needs)
 
--- src/lib.rt:348:1
 returns-4 : tie.Need-returns-4
 returns-4 c = search (meaning-shape, needs)
 

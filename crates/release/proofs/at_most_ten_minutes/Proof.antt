@@ -2,18 +2,13 @@ use Rattle.release.specs.Laws.{ten-minutes}
 use borrow.Author.Needs.{needs}
 use Rattle.release.proofs.at_most_ten_minutes.Statement.{statement}
 use Rattle.release.proofs.at_most_ten_minutes.Tie as tie
-use Rattle.release.proofs.at_most_ten_minutes.Reads as reads
-use Rattle.release.proofs.at_most_ten_minutes.Lts as lts
 
--- src/lib.rt:137:12
 cast-result : tie.Need-cast-result
 cast-result c = search needs
 
--- src/lib.rt:137:5
 mul-result : tie.Need-mul-result
 mul-result c = search needs
 
--- src/lib.rt:133:1
 returns : tie.Need-returns
 returns c = ten-minutes (c .before .args .quantity .0) (c .before .args .rate .0)
 

@@ -5,19 +5,13 @@ use native.Mathlib.Omega.{arith}
 use borrow.Author.Needs.{needs}
 use Rattle.release.proofs.diked_area.Statement.{statement}
 use Rattle.release.proofs.diked_area.Tie as tie
-use Rattle.release.proofs.diked_area.Reads as reads
-use Rattle.release.proofs.diked_area.Lts as lts
-use Rattle.release.proofs.full_area.Reads as full-area-reads
 
--- src/lib.rt:71:9
 full-area-requires : tie.Need-full-area-requires
 full-area-requires c κs = search needs
 
--- src/lib.rt:73:16
 cast-wall : tie.Need-cast-wall
 cast-wall c = search needs
 
--- src/lib.rt:75:9
 returns : tie.Need-returns
 returns c =
     let a = c .before .before .before .args in
@@ -30,41 +24,34 @@ area-below c =
     let a = c .before .before .before .args in
     omega (arith, full-below (a .quantity .0) (a .df) (omega arith) (omega arith))
 
--- src/lib.rt:77:22
 mul-held : tie.Need-mul-held
 mul-held c =
     let a = c .before .before .before .args in
     omega (arith, held-below (a .dike .area .0) (a .dike .wall) (area-below c) (omega arith))
 
--- src/lib.rt:77:16
 mul-held-2 : tie.Need-mul-held-2
 mul-held-2 c =
     let a = c .before .before .before .args in
     omega (arith, held-below (a .dike .area .0) (a .dike .wall) (area-below c) (omega arith))
 
--- src/lib.rt:79:9
 returns-2 : tie.Need-returns-2
 returns-2 c =
     let a = c .before .before .before .before .args in
     let e = c .before .before .before .full-area .ensures in
     rw (diked-closed (fullArea (a .quantity .0) (a .df)) (a .dike .area .0) (a .dike .wall)) (omega arith)
 
--- src/lib.rt:82:9
 returns-3 : tie.Need-returns-3
 returns-3 c =
     let a = c .before .before .before .before .before .args in
     let e = c .before .before .before .before .full-area .ensures in
     rw (diked-closed (fullArea (a .quantity .0) (a .df)) (a .dike .area .0) (a .dike .wall)) (omega arith)
 
--- src/lib.rt:84:13
 sub-result : tie.Need-sub-result
 sub-result c = search needs
 
--- src/lib.rt:84:5
 add-result : tie.Need-add-result
 add-result c = search needs
 
--- src/lib.rt:68:1
 returns-4 : tie.Need-returns-4
 returns-4 c =
     let a = c .before .before .before .before .before .args in

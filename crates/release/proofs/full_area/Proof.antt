@@ -3,18 +3,13 @@ use native.Mathlib.Omega.{arith}
 use borrow.Author.Needs.{needs}
 use Rattle.release.proofs.full_area.Statement.{statement}
 use Rattle.release.proofs.full_area.Tie as tie
-use Rattle.release.proofs.full_area.Reads as reads
-use Rattle.release.proofs.full_area.Lts as lts
 
--- src/lib.rt:58:6
 cast-result : tie.Need-cast-result
 cast-result c = search needs
 
--- src/lib.rt:58:5
 mul-result : tie.Need-mul-result
 mul-result c = omega (arith, full-below (c .args .quantity .0) (c .args .df) (omega arith) (omega arith))
 
--- src/lib.rt:54:1
 returns : tie.Need-returns
 returns c = search needs
 

@@ -1,49 +1,34 @@
 use borrow.Author.Needs.{needs}
 use Rattle.release.proofs.pool_area.Statement.{statement}
 use Rattle.release.proofs.pool_area.Tie as tie
-use Rattle.release.proofs.pool_area.Reads as reads
-use Rattle.release.proofs.pool_area.Lts as lts
-use Rattle.release.proofs.diked_area.Reads as diked-area-reads
-use Rattle.release.proofs.full_area.Reads as full-area-reads
-use Rattle.release.proofs.smaller.Reads as smaller-reads
 
--- src/lib.rt:92:41
 enum-told : tie.Need-enum-told
 enum-told c = search needs
 
--- src/lib.rt:92:41
 full-area-requires : tie.Need-full-area-requires
 full-area-requires c κs = search needs
 
--- src/lib.rt:93:27
 enum-known-containment : tie.Need-enum-known-containment
 enum-known-containment c = search needs
 
--- src/lib.rt:93:47
 diked-area-requires : tie.Need-diked-area-requires
 diked-area-requires c κs = search needs
 
--- src/lib.rt:94:31
 enum-known-containment-2 : tie.Need-enum-known-containment-2
 enum-known-containment-2 c = search needs
 
--- src/lib.rt:96:39
 full-area-requires-2 : tie.Need-full-area-requires-2
 full-area-requires-2 c κs = search needs
 
--- src/lib.rt:96:24
 smaller-requires : tie.Need-smaller-requires
 smaller-requires c κs = search needs
 
--- src/lib.rt:88:1
 returns : tie.Need-returns
 returns c = cc
 
--- src/lib.rt:88:1
 returns-2 : tie.Need-returns-2
 returns-2 c = simp (c .diked-area .ensures, c .before .before .containment .given .1)
 
--- src/lib.rt:88:1
 returns-3 : tie.Need-returns-3
 returns-3 c = cc
 

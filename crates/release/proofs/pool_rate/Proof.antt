@@ -3,35 +3,26 @@ use Rattle.release.specs.Pool.{poolRate}
 use native.Mathlib.Omega.{arith}
 use Rattle.release.proofs.pool_rate.Statement.{statement}
 use Rattle.release.proofs.pool_rate.Tie as tie
-use Rattle.release.proofs.pool_rate.Reads as reads
-use Rattle.release.proofs.pool_rate.Lts as lts
 
--- src/lib.rt:122:24
 mul-product : tie.Need-mul-product
 mul-product c = let b = product-below (c .args .lf) (c .args .tcf) (c .args .area .0) (c .pre .0) (c .pre .1 .0) (c .pre .1 .1) in omega arith
 
--- src/lib.rt:122:24
 mul-product-2 : tie.Need-mul-product-2
 mul-product-2 c = let b = product-below (c .args .lf) (c .args .tcf) (c .args .area .0) (c .pre .0) (c .pre .1 .0) (c .pre .1 .1) in omega arith
 
--- src/lib.rt:122:19
 mul-product-3 : tie.Need-mul-product-3
 mul-product-3 c = let b = product-below (c .args .lf) (c .args .tcf) (c .args .area .0) (c .pre .0) (c .pre .1 .0) (c .pre .1 .1) in omega arith
 
--- src/lib.rt:124:26
 add-t13 : tie.Need-add-t13
 add-t13 c = let b = product-below (c .before .args .lf) (c .before .args .tcf) (c .before .args .area .0) (c .before .pre .0) (c .before .pre .1 .0) (c .before .pre .1 .1) in omega arith
 
--- src/lib.rt:126:26
 add-t15 : tie.Need-add-t15
 add-t15 c = let b = product-below (c .before .args .lf) (c .before .args .tcf) (c .before .args .area .0) (c .before .pre .0) (c .before .pre .1 .0) (c .before .pre .1 .1) in omega arith
 
--- src/lib.rt:115:1
 returns : tie.Need-returns
 unfolding poolRate
 returns c = rw (c .if1 .taken) (omega arith)
 
--- src/lib.rt:115:1
 returns-2 : tie.Need-returns-2
 unfolding poolRate
 returns-2 c = rw (c .if1 .left) (omega arith)

@@ -3,52 +3,37 @@ use Rattle.rings_c.proofs.Ends.{accepted-code, accepted-word, refused-c
 use borrow.Author.Needs.{needs}
 use Rattle.rings_c.proofs.rings_answer.Statement.{statement}
 use Rattle.rings_c.proofs.rings_answer.Tie as tie
-use Rattle.rings_c.proofs.rings_answer.Reads as reads
-use Rattle.rings_c.proofs.rings_answer.Lts as lts
-use Rattle.register.proofs.fill.Reads as fill-reads
-use Rattle.rings_c.proofs.code_of.Reads as code-of-reads
-use Rattle.rings_c.proofs.word_of.Reads as word-of-reads
 
--- src/lib.rt:46:9
 fill-requires : tie.Need-fill-requires
 fill-requires c κs = search needs
 
--- src/lib.rt:48:27
 enum-known-outcome : tie.Need-enum-known-outcome
 enum-known-outcome c = search needs
 
--- src/lib.rt:51:22
 word-of-requires : tie.Need-word-of-requires
 word-of-requires c κs = search needs
 
--- src/lib.rt:52:26
 word-of-requires-2 : tie.Need-word-of-requires-2
 word-of-requires-2 c κs = search needs
 
--- src/lib.rt:55:26
 enum-known-outcome-2 : tie.Need-enum-known-outcome-2
 enum-known-outcome-2 c = search needs
 
--- src/lib.rt:55:45
 code-of-requires : tie.Need-code-of-requires
 code-of-requires c κs = search needs
 
--- src/lib.rt:34:1
 same-length : tie.Need-same-length
 same-length c = search needs
 
--- src/lib.rt:34:1
 returns : tie.Need-returns
 returns c =
     let h = c .before .before .before .before .before .before .before .fill .ensures in
     let q = c .before .before .before .outcome .given .1 in
     (accepted-code _ _ (h .0) _ q, (h .1, (accepted-word _ _ (h .0) Toxic _ _ _ q (c .before .word-of .ensures), accepted-word _ _ (h .0) Flammable _ _ _ q (c .word-of2 .ensures))))
 
--- src/lib.rt:34:1
 same-length-2 : tie.Need-same-length-2
 same-length-2 c = search needs
 
--- src/lib.rt:34:1
 returns-2 : tie.Need-returns-2
 returns-2 c =
     let h = c .before .before .before .before .before .before .fill .ensures in

@@ -2,43 +2,31 @@ use Rattle.rings_c.proofs.Ends.{none-word, card-word}
 use borrow.Author.Needs.{needs}
 use Rattle.rings_c.proofs.word_of.Statement.{statement}
 use Rattle.rings_c.proofs.word_of.Tie as tie
-use Rattle.rings_c.proofs.word_of.Reads as reads
-use Rattle.rings_c.proofs.word_of.Lts as lts
-use Rattle.dispersion.proofs.hundredths.Reads as hundredths-reads
 
--- src/lib.rt:16:27
 enum-told : tie.Need-enum-told
 enum-told c = search needs
 
--- src/lib.rt:17:24
 enum-known-leader : tie.Need-enum-known-leader
 enum-known-leader c = search needs
 
--- src/lib.rt:18:25
 hundredths-requires : tie.Need-hundredths-requires
 hundredths-requires c κs = search needs
 
--- src/lib.rt:18:25
 cast-miles : tie.Need-cast-miles
 cast-miles c = search needs
 
--- src/lib.rt:19:13
 cast-result : tie.Need-cast-result
 cast-result c = search needs
 
--- src/lib.rt:19:13
 mul-result : tie.Need-mul-result
 mul-result c = search needs
 
--- src/lib.rt:19:13
 add-result : tie.Need-add-result
 add-result c = search needs
 
--- src/lib.rt:12:1
 returns : tie.Need-returns
 returns c = search (none-word, needs)
 
--- src/lib.rt:12:1
 returns-2 : tie.Need-returns-2
 returns-2 c = search (card-word, needs)
 

@@ -2,10 +2,6 @@ use Rattle.scenario.proofs.Ends.{in-gas-state, in-freed-state}
 use borrow.Author.Needs.{needs}
 use Rattle.scenario.proofs.gas_plan.Statement.{statement}
 use Rattle.scenario.proofs.gas_plan.Tie as tie
-use Rattle.scenario.proofs.gas_plan.Reads as reads
-use Rattle.scenario.proofs.gas_plan.Lts as lts
-use Rattle.scenario.proofs.freed.Reads as freed-reads
-use Rattle.scenario.proofs.refrigerated.Reads as refrigerated-reads
 
 freed-requires : tie.Need-freed-requires
 freed-requires c κs = search needs

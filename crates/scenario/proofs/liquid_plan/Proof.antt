@@ -2,9 +2,6 @@ use Rattle.scenario.proofs.Ends.{in-liquid-state, no-liquid}
 use borrow.Author.Needs.{needs}
 use Rattle.scenario.proofs.liquid_plan.Statement.{statement}
 use Rattle.scenario.proofs.liquid_plan.Tie as tie
-use Rattle.scenario.proofs.liquid_plan.Reads as reads
-use Rattle.scenario.proofs.liquid_plan.Lts as lts
-use Rattle.scenario.proofs.spilled.Reads as spilled-reads
 
 enum-told : tie.Need-enum-told
 enum-told c = search needs

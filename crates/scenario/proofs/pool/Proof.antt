@@ -3,33 +3,22 @@ use Rattle.scenario.proofs.Ends.{pool-end}
 use borrow.Author.Needs.{needs}
 use Rattle.scenario.proofs.pool.Statement.{statement}
 use Rattle.scenario.proofs.pool.Tie as tie
-use Rattle.scenario.proofs.pool.Reads as reads
-use Rattle.scenario.proofs.pool.Lts as lts
-use Rattle.release.proofs.at_most_ten_minutes.Reads as at-most-ten-minutes-reads
-use Rattle.release.proofs.pool_area.Reads as pool-area-reads
-use Rattle.release.proofs.pool_rate.Reads as pool-rate-reads
-use Rattle.scenario.proofs.table.Reads as table-reads
 
--- src/lib.rt:234:9
 pool-area-requires : tie.Need-pool-area-requires
 pool-area-requires c κs = search needs
 
--- src/lib.rt:235:9
 pool-rate-requires : tie.Need-pool-rate-requires
 pool-rate-requires c κs =
     let a = c .before .before .args in
     let p = c .before .before .pre in
     (p .1 .1 .0, (p .1 .1 .1, rw (c .pool-area .ensures) (area-limit (a .source .df) (a .card .containment) (p .0) (p .1 .0))))
 
--- src/lib.rt:236:9
 at-most-ten-minutes-requires : tie.Need-at-most-ten-minutes-requires
 at-most-ten-minutes-requires c κs = search needs
 
--- src/lib.rt:237:9
 table-requires : tie.Need-table-requires
 table-requires c κs = search needs
 
--- src/lib.rt:222:1
 returns : tie.Need-returns
 returns c =
     let a = c .before .before .before .before .before .args in

@@ -5,15 +5,10 @@ use Rattle.factors.specs.Factors.{columnOf}
 use borrow.Author.Needs.{needs}
 use Rattle.scenario.proofs.warmth.Statement.{statement}
 use Rattle.scenario.proofs.warmth.Tie as tie
-use Rattle.scenario.proofs.warmth.Reads as reads
-use Rattle.scenario.proofs.warmth.Lts as lts
-use Rattle.factors.proofs.closest_column.Reads as closest-column-reads
 
--- src/lib.rt:305:5
 closest-column-requires : tie.Need-closest-column-requires
 closest-column-requires c κs = search needs
 
--- src/lib.rt:301:1
 returns : tie.Need-returns
 returns c =
     let back = toZ-ofZ {w = w16} {z = c .before .before .args .card .temperature} (record { sfits = c .before .struct-told .given .1 .1 .1 .1 .1 .0 .1 }) in

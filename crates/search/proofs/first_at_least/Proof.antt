@@ -7,12 +7,9 @@ use native.Mathlib.Omega.{arith}
 use mathlib.Core.Path.{sym}
 use lib.ListN.{length, getD}
 use denote.Ref.{now}
-use borrow.Author.Needs.{needs}
 use Rattle.search.specs.Laws.{first-unique, rising}
 use Rattle.search.proofs.first_at_least.Statement.{statement}
 use Rattle.search.proofs.first_at_least.Tie as tie
-use Rattle.search.proofs.first_at_least.Reads as reads
-use Rattle.search.proofs.first_at_least.Lts as lts
 
 abbrev Inv-loop : tie.InvT-loop
 Inv-loop a x lo₀ hi₀ lo hi =
