@@ -39,15 +39,16 @@ use Rattle.meaning.specs.declared.Bounds.the-variants as bounds
 use Rattle.meaning.specs.declared.Meaning.the-variants as meaning
 use Rattle.form.specs.Form.{stateOf, groundOf, heldOf, heatFits, shapedHeat, shapedHeld, shapedState, shapedBlank, shapeOf, blank}
 use Rattle.meaning.specs.Reading.{badNumber, badPounds, badArea, badWall, badHeat, signed, boundsIf, boundsOf, toxicBounded, isListed, meaningIf, toxicMeaning, flammableOf, shaped, meaningOf}
-use Rattle.form.specs.Inverse.{toxic-shape, flammable-shape}
+use Rattle.form.specs.Inverse.{Stands, toxic-shape, flammable-shape}
 use Rattle.card.specs.declared.Answered.{Answered}
 use Rattle.card.specs.declared.Answered.the-variants as answered
 use Rattle.card.specs.Answers.{readToxic, plannedAnswer, readFlammable, answerFor, answerOf}
-use Rattle.conditions.specs.Conditions.{anyOf, ofGas, ofLiquid, ofTable13, badForm, badCas, badRange, aboveFifty, cellRead, withoutData, mismatched, cardFrom, beyondPlan, beyondIn, beyond, ofCard}
+use Rattle.conditions.specs.Conditions.{anyOf, ofGas, ofLiquid, ofTable13, badForm, badCas, badRange, aboveFifty, cellRead, withoutData, mismatched, toxicCard, groundIn, beyondPlan, beyond, ofCard}
 use Rattle.conditions.specs.First.{clash, Verdict, passed, refused, pick, firstOf}
-use Rattle.conditions.specs.Form.{isRefused, form-is}
+use Rattle.conditions.specs.Form.{either-last, isRefused, form-is}
 use Rattle.conditions.specs.Substances.{Seen, a-gas, a-liquid, neither, seen}
-use Rattle.conditions.specs.Mismatch.{isMismatch, mismatch-is}
+use Rattle.conditions.specs.Mismatch.{cardFrom, isMismatch, mismatch-is}
+use Rattle.conditions.specs.Vessel.{card-made, ground-made}
 use Rattle.conditions.specs.Beyond.{isBeyond, reading-beyond, blast-beyond}
 
 -- an answer, or a refusal
@@ -95,16 +96,25 @@ cas-toxic : (card : List ℕ) → byteAt card 0 ≡ 1 → badCas card ≡ not (e
 unfolding badCas
 cas-toxic card e =
     ap (λ k. either (both (eqb k 1) (not (either (ofGas card) (ofLiquid card)))) (both (eqb k 2) (not (ofTable13 card)))) e
-    ∙ go (not (either (ofGas card) (ofLiquid card)))
-  where
-    go : (t : Bool) → either t false ≡ t
-    go true = refl
-    go false = refl
+    ∙ either-last (not (either (ofGas card) (ofLiquid card)))
 
 cas-flammable : (card : List ℕ) → byteAt card 0 ≡ 2 → badCas card ≡ not (ofTable13 card)
 unfolding badCas
 cas-flammable card e =
     ap (λ k. either (both (eqb k 1) (not (either (ofGas card) (ofLiquid card)))) (both (eqb k 2) (not (ofTable13 card)))) e
+
+-- 11 for each kind
+beyond-toxic : (card : List ℕ) (standing : Standing) → Stands (fieldsOf card) standing → beyond card ≡ beyondPlan (planOf (cardFrom (fieldsOf card) standing)) (standing .ground)
+unfolding beyond fieldsOf
+beyond-toxic card standing from =
+    ap (λ k. either (both (eqb k 1) (beyondPlan (planOf (toxicCard card)) (groundIn (byteAt card 2)))) (both (eqb k 2) (ltb 2_000_000 (fieldsOf card .pounds)))) (from .kind)
+    ∙ (either-last (beyondPlan (planOf (toxicCard card)) (groundIn (byteAt card 2)))
+    ∙ ap₂ (λ x g. beyondPlan (planOf x) g) (card-made card standing from) (ground-made card standing from))
+
+beyond-flammable : (card : List ℕ) → byteAt card 0 ≡ 2 → beyond card ≡ ltb 2_000_000 (fieldsOf card .pounds)
+unfolding beyond
+beyond-flammable card e =
+    ap (λ k. either (both (eqb k 1) (beyondPlan (planOf (toxicCard card)) (groundIn (byteAt card 2)))) (both (eqb k 2) (ltb 2_000_000 (fieldsOf card .pounds)))) e
 
 listed-is : (card : List ℕ) → either (ofGas card) (ofLiquid card) ≡ isListed (toxicOf (fieldsOf card .cas))
 unfolding ofGas ofLiquid
@@ -232,13 +242,20 @@ flammable-verdict card n e =
 
 -- ---- any card
 
-shape-verdict : (card : List ℕ) (n : ℕ) (s : Shape) → shapeOf (fieldsOf card) ≡ s → verdictOf (answerFor (shaped s (fieldsOf card)) n) ≡ inTurn (isRefused s) (badCas card) (badPounds (fieldsOf card .pounds)) (badRange card) (mismatched card) (beyondIn s (fieldsOf card))
-shape-verdict card n (shape.Toxic standing) e = toxic-verdict card n standing e
-shape-verdict card n shape.Flammable e = flammable-verdict card n e
+-- where the form is refused, what comes behind it does not count
+shape-verdict : (card : List ℕ) (n : ℕ) (s : Shape) → shapeOf (fieldsOf card) ≡ s → verdictOf (answerFor (shaped s (fieldsOf card)) n) ≡ inTurn (isRefused s) (badCas card) (badPounds (fieldsOf card .pounds)) (badRange card) (mismatched card) (beyond card)
+unfolding fieldsOf
+shape-verdict card n (shape.Toxic standing) e =
+    toxic-verdict card n standing e
+    ∙ ap (inTurn false (badCas card) (badPounds (fieldsOf card .pounds)) (badRange card) (mismatched card))
+    (sym (beyond-toxic card standing (toxic-shape (fieldsOf card) e)))
+shape-verdict card n shape.Flammable e =
+    flammable-verdict card n e
+    ∙ ap (inTurn false (badCas card) (badPounds (fieldsOf card .pounds)) (badRange card) (mismatched card))
+    (sym (beyond-flammable card (flammable-shape (fieldsOf card) e)))
 shape-verdict card n (shape.Refused r) e = ap refused (sym (form-refused (fieldsOf card) e))
 
 number-verdict : (card : List ℕ) (n : ℕ) (b : Bool) → verdictOf (answerFor (meaningIf b refusal.Number (shaped (shapeOf (fieldsOf card)) (fieldsOf card))) n) ≡ pick b refusal.Number (inTurn (badForm card) (badCas card) (badPounds (fieldsOf card .pounds)) (badRange card) (mismatched card) (beyond card))
-unfolding beyond
 number-verdict card n true = refl
 number-verdict card n false =
     shape-verdict card n (shapeOf (fieldsOf card)) refl

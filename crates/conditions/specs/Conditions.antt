@@ -1,7 +1,7 @@
 -- "When a register is sent back": the condition of each number, over the bytes and the place, in document 01's words. A later
 -- request adds a line to `ofRegister` or `ofCard`.
 -- Assumes nothing.
-use Prim.Native.Nat.{ℕ, zero, suc, _-_}
+use Prim.Native.Nat.{ℕ, zero, suc, _*_, _-_}
 use mathlib.Core.Bool.{Bool, true, false, not}
 use mathlib.Core.List.{List, [], _∷_, _++_, map}
 use lib.Dec.{ltb, eqb}
@@ -16,24 +16,24 @@ use Rattle.exhibits.specs.PrintedB1.{b1}
 use Rattle.exhibits.specs.PrintedB2.{b2}
 use Rattle.exhibits.specs.Exhibits.{gasCas, liquidCas, factorsOf, toxicOf}
 use Rattle.dispersion.specs.declared.Ground.{Ground}
+use Rattle.dispersion.specs.declared.Ground.the-variants.{Rural, Urban}
 use Rattle.rules.specs.Rules.{distance, inUse, larger, closest, closestColumn, fromColumn, thousandths, lastOf, past, markOf, mileLimit}
 use Rattle.dispersion.specs.Tables.{Table, ranges, grid, lines, unprinted, tables, rateOf, entryOf}
 use Rattle.blast.specs.Blast.{casOf}
 use Rattle.blast.specs.Printed13.{table13}
+use Rattle.release.specs.declared.Containment.{Containment}
+use Rattle.release.specs.declared.Containment.the-variants.{Open, Dike, Building}
+use Rattle.scenario.specs.declared.State.{State}
+use Rattle.scenario.specs.declared.State.the-variants.{Gas, Pressurized, Refrigerated, Liquid}
 use Rattle.scenario.specs.declared.ToxicCard.{ToxicCard}
 use Rattle.scenario.specs.declared.Planned.{Planned}
 use Rattle.scenario.specs.declared.Planned.the-variants as planned
 use Rattle.factors.specs.Columns.{columns}
 use Rattle.scenario.specs.Plan.{planOf}
-use Rattle.fields.specs.declared.Fields.{Fields}
 use Rattle.buffer.specs.Numbers.{byteAt}
 use Rattle.fields.specs.Layout.{fieldsOf}
 use Rattle.refusals.specs.declared.Refusal.{Refusal}
 use Rattle.refusals.specs.declared.Refusal.the-variants as refusal
-use Rattle.form.specs.declared.Standing.{Standing}
-use Rattle.form.specs.declared.Shape.{Shape}
-use Rattle.form.specs.declared.Shape.the-variants as shape
-use Rattle.form.specs.Form.{shapeOf}
 use Rattle.meaning.specs.Reading.{badNumber, badPounds, badArea, badWall, badHeat, signed}
 use Rattle.header.specs.Header.{badLength, badVersion, badCount, badBuffer, countOf}
 use Rattle.ordering.specs.Claim.{cardAt}
@@ -183,32 +183,49 @@ unfoldable pub beyondTable : Table → Ground → ℕ → ℕ → Bool
 beyondTable table ground rate endpoint =
     both (aboveLast table rate endpoint) (not (eqb (lastInUse table ground endpoint) mileLimit))
 
--- the meaning of a toxic card's fields, with its substance
-abbrev pub cardFrom : Fields → Standing → ToxicCard
-cardFrom f standing =
+-- what bytes 1 to 3 say of a card whose form is sound: "1 gas, 2 gas liquefied under pressure, 3 gas liquefied by refrigeration
+-- alone, 4 liquid"
+unfoldable pub stateIn : ℕ → State
+stateIn b =
+    elim (eqb b 1)
+    [ true ↦ Gas | false ↦ elim (eqb b 2) [ true ↦ Pressurized | false ↦ elim (eqb b 3) [ true ↦ Refrigerated | false ↦ Liquid ] ] ]
+
+-- "1 rural, 2 urban"
+unfoldable pub groundIn : ℕ → Ground
+groundIn b = elim (eqb b 1) [ true ↦ Rural | false ↦ Urban ]
+
+-- "open, a dike with its area and wall, or a building with its floor"; areas in hundredths of a square foot
+unfoldable pub heldIn : ℕ → ℕ → ℕ → Containment
+heldIn b area wall =
+    elim (eqb b 1) [
+      | true ↦ Dike (record { area = record { 0 = 100 * area }; wall = wall })
+      | false ↦ elim (eqb b 2) [ true ↦ Building (record { floor = record { 0 = 100 * area } }) | false ↦ Open ]
+    ]
+
+-- a toxic card in meaning
+abbrev pub toxicCard : List ℕ → ToxicCard
+toxicCard card =
     record {
-      cas = f .cas;
-      entry = toxicOf (f .cas);
-      state = standing .state;
-      ground = standing .ground;
-      quantity = record { 0 = f .pounds };
-      temperature = signed (f .heat);
-      containment = standing .containment;
+      cas = fieldsOf card .cas;
+      entry = toxicOf (fieldsOf card .cas);
+      state = stateIn (byteAt card 1);
+      ground = groundIn (byteAt card 2);
+      quantity = record { 0 = fieldsOf card .pounds };
+      temperature = signed (fieldsOf card .heat);
+      containment = heldIn (byteAt card 3) (fieldsOf card .area) (fieldsOf card .wall);
     }
 
--- the table and the rate are those that demand 2 gives the card
+-- the table, the rate and the endpoint are those that demand 2 gives the card
 abbrev pub beyondPlan : Planned → Ground → Bool
 beyondPlan (planned.Planned s) ground = beyondTable (getD tables (s .table) unprinted) ground (s .rate .0) (s .endpoint)
 beyondPlan planned.Mismatch ground = false
 
 -- 11: "beyond the table; flammable above 2,000,000 lb"
-abbrev pub beyondIn : Shape → Fields → Bool
-beyondIn (shape.Toxic standing) f = beyondPlan (planOf (cardFrom f standing)) (standing .ground)
-beyondIn shape.Flammable f = ltb 2_000_000 (f .pounds)
-beyondIn (shape.Refused r) f = false
-
 unfoldable pub beyond : List ℕ → Bool
-beyond card = beyondIn (shapeOf (fieldsOf card)) (fieldsOf card)
+beyond card =
+    either
+    (both (toxic card) (beyondPlan (planOf (toxicCard card)) (groundIn (byteAt card 2))))
+    (both (flammable card) (ltb 2_000_000 (fieldsOf card .pounds)))
 
 -- a line of the table: a refusal, which has its number, and whether its condition holds
 pub data Condition : Type 0 where

@@ -205,7 +205,7 @@ either-true : (g rest : Bool) → either g (either true rest) ≡ true
 either-true true rest = refl
 either-true false rest = refl
 
-either-last : (h : Bool) → either h false ≡ h
+pub either-last : (h : Bool) → either h false ≡ h
 either-last true = refl
 either-last false = refl
 

@@ -3,6 +3,7 @@ pub mod First
 pub mod Form
 pub mod Substances
 pub mod Mismatch
+pub mod Vessel
 pub mod Beyond
 pub mod Cards
 pub mod Claim

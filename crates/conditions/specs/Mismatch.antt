@@ -40,6 +40,7 @@ use Rattle.factors.specs.Factors.{ofCell, columnOf}
 use Rattle.factors.specs.Factors as tabled
 use Rattle.factors.specs.Columns.{columns, placeIn, closestFor, columns-closest, colder}
 use Rattle.buffer.specs.Numbers.{byteAt, twoAt, fourAt}
+use Rattle.fields.specs.declared.Fields.{Fields}
 use Rattle.fields.specs.Layout.{fieldsOf}
 use Rattle.form.specs.declared.StateByte.the-variants as stateByte
 use Rattle.form.specs.declared.Held.{Held}
@@ -48,7 +49,7 @@ use Rattle.form.specs.declared.Standing.{Standing}
 use Rattle.form.specs.Form.{stateOf, openOf, heldOf}
 use Rattle.meaning.specs.Reading.{isListed, signed}
 use Rattle.form.specs.Inverse.{Stands}
-use Rattle.conditions.specs.Conditions.{anyOf, ofGas, ofLiquid, columnRead, cellRead, withoutData, aboveFifty, mismatched, cardFrom}
+use Rattle.conditions.specs.Conditions.{anyOf, ofGas, ofLiquid, columnRead, cellRead, withoutData, aboveFifty, mismatched}
 use Rattle.conditions.specs.First.{clash}
 use Rattle.conditions.specs.Form.{state-is, no-state}
 use Rattle.conditions.specs.Substances.{Seen, a-gas, a-liquid, neither, seen}
@@ -125,6 +126,19 @@ factors-missing l t = go (ltZ (pos 500) t) refl
         column-missing l (columnOf t) (not-above t e)
         ∙ ap (λ p. withoutData (getD (cellsIn (l .corrections)) p NoData)) (place-read t e)
 
+-- the meaning of a toxic card's fields, with its substance
+abbrev pub cardFrom : Fields → Standing → ToxicCard
+cardFrom f standing =
+    record {
+      cas = f .cas;
+      entry = toxicOf (f .cas);
+      state = standing .state;
+      ground = standing .ground;
+      quantity = record { 0 = f .pounds };
+      temperature = signed (f .heat);
+      containment = standing .containment;
+    }
+
 -- what no scenario fits
 abbrev pub isMismatch : Planned → Bool
 isMismatch (planned.Planned s) = false
@@ -135,7 +149,7 @@ isDike Open = false
 isDike (Dike d) = true
 isDike (Building b) = false
 
-held-is : {a b : Containment} → held.Is a ≡ held.Is b → a ≡ b
+pub held-is : {a b : Containment} → held.Is a ≡ held.Is b → a ≡ b
 held-is e = cc
 
 -- byte 3 is 1 exactly for a dike

@@ -9,7 +9,7 @@ use Rattle.refusals.specs.Numbers.{numberOf}
 use Rattle.walk.specs.declared.Outcome.{Outcome}
 use Rattle.walk.specs.declared.Outcome.the-variants as outcome
 use Rattle.register.specs.Register.{outcomeOf}
-use Rattle.conditions.specs.Conditions.{Condition, condition, unlisted, filled, badToxic, badFlammable, badForm, ofGas, ofLiquid, ofTable13, badCas, badRange, mismatched, aboveLast, lastInUse, beyondTable, beyond, ofRegister, ofCard, only, conditionsAt}
+use Rattle.conditions.specs.Conditions.{Condition, condition, unlisted, filled, badToxic, badFlammable, badForm, ofGas, ofLiquid, ofTable13, badCas, badRange, mismatched, aboveLast, lastInUse, beyondTable, stateIn, groundIn, heldIn, beyond, ofRegister, ofCard, only, conditionsAt}
 use Rattle.promises.specs.Starred.{cardOf, registerOf, chlorine, ammonia, bromine, propane, rural, urban, in-open, in-dike, computed}
 
 -- a register, the length of the answer buffer, and the number and place that it is sent back with
@@ -84,5 +84,5 @@ stated e = e .number ∷ e .place ∷ e .number ∷ []
 
 -- Every example of the table.
 pub sent-back : map defined examples ≡ map stated examples
-unfolding examples computed holding conditionsAt only ofRegister ofCard badForm badToxic badFlammable unlisted filled badCas ofGas ofLiquid ofTable13 badRange mismatched beyond beyondTable aboveLast lastInUse
+unfolding examples computed holding conditionsAt only ofRegister ofCard badForm badToxic badFlammable unlisted filled badCas ofGas ofLiquid ofTable13 badRange mismatched beyond stateIn groundIn heldIn beyondTable aboveLast lastInUse
 sent-back = refl

@@ -1,0 +1,79 @@
+-- The card that condition 11 speaks of is the one that the form of its bytes makes.
+-- Assumes nothing.
+use Prim.Native.Nat.{ℕ, _*_}
+use mathlib.Core.Path.{_≡_}
+use mathlib.Core.Bool.{Bool, true, false}
+use mathlib.Core.List.{List}
+use lib.Dec.{eqb}
+use Rattle.dispersion.specs.declared.Ground.{Ground}
+use Rattle.dispersion.specs.declared.Ground.the-variants.{Rural, Urban}
+use Rattle.release.specs.declared.Containment.{Containment}
+use Rattle.release.specs.declared.Containment.the-variants.{Open, Dike, Building}
+use Rattle.scenario.specs.declared.State.{State}
+use Rattle.scenario.specs.declared.State.the-variants.{Gas, Pressurized, Refrigerated, Liquid}
+use Rattle.buffer.specs.Numbers.{byteAt}
+use Rattle.fields.specs.Layout.{fieldsOf}
+use Rattle.form.specs.declared.StateByte.{StateByte}
+use Rattle.form.specs.declared.StateByte.the-variants as stateByte
+use Rattle.form.specs.declared.GroundByte.{GroundByte}
+use Rattle.form.specs.declared.GroundByte.the-variants as groundByte
+use Rattle.form.specs.declared.Held.{Held}
+use Rattle.form.specs.declared.Held.the-variants as held
+use Rattle.form.specs.declared.Standing.{Standing}
+use Rattle.form.specs.Form.{stateOf, groundOf, openOf, heldOf}
+use Rattle.form.specs.Inverse.{Stands}
+use Rattle.conditions.specs.Conditions.{stateIn, groundIn, heldIn, toxicCard}
+use Rattle.conditions.specs.First.{clash}
+use Rattle.conditions.specs.Form.{state-is}
+use Rattle.conditions.specs.Mismatch.{held-is, cardFrom}
+
+state-in : (b : ℕ) (s : State) → stateOf b ≡ stateByte.Is s → stateIn b ≡ s
+unfolding stateOf stateIn
+state-in b s e = go (eqb b 1) (eqb b 2) (eqb b 3) (eqb b 4) e
+  where
+    go : (p q r t : Bool) → (elim p as (λ _. StateByte) [ true ↦ stateByte.Is Gas | false ↦ elim q as (λ _. StateByte) [ true ↦ stateByte.Is Pressurized | false ↦ elim r as (λ _. StateByte) [ true ↦ stateByte.Is Refrigerated | false ↦ elim t as (λ _. StateByte) [ true ↦ stateByte.Is Liquid | false ↦ stateByte.Unlisted ] ] ] ]) ≡ stateByte.Is s → (elim p as (λ _. State) [ true ↦ Gas | false ↦ elim q as (λ _. State) [ true ↦ Pressurized | false ↦ elim r as (λ _. State) [ true ↦ Refrigerated | false ↦ Liquid ] ] ]) ≡ s
+    go true q r t x = state-is x
+    go false true r t x = state-is x
+    go false false true t x = state-is x
+    go false false false true x = state-is x
+    go false false false false x = let z : _≡_ {A = ℕ} 0 1 = cc in clash z
+
+ground-is : {a b : Ground} → groundByte.Is a ≡ groundByte.Is b → a ≡ b
+ground-is e = cc
+
+ground-in : (b : ℕ) (g : Ground) → groundOf b ≡ groundByte.Is g → groundIn b ≡ g
+unfolding groundOf groundIn
+ground-in b g e = go (eqb b 1) (eqb b 2) e
+  where
+    go : (p q : Bool) → (elim p as (λ _. GroundByte) [ true ↦ groundByte.Is Rural | false ↦ elim q as (λ _. GroundByte) [ true ↦ groundByte.Is Urban | false ↦ groundByte.Unlisted ] ]) ≡ groundByte.Is g → (elim p as (λ _. Ground) [ true ↦ Rural | false ↦ Urban ]) ≡ g
+    go true q x = ground-is x
+    go false true x = ground-is x
+    go false false x = let z : _≡_ {A = ℕ} 0 1 = cc in clash z
+
+held-in : (b area wall : ℕ) (c : Containment) → heldOf b area wall ≡ held.Is c → heldIn b area wall ≡ c
+unfolding heldOf openOf heldIn
+held-in b area wall c e = go (eqb b 1) (eqb wall 0) (eqb b 2) (eqb b 0) (eqb area 0) e
+  where
+    go : (p q r t u : Bool) → (elim p as (λ _. Held) [ true ↦ held.Is (Dike (record { area = record { 0 = 100 * area }; wall = wall })) | false ↦ elim q as (λ _. Held) [ true ↦ elim r as (λ _. Held) [ true ↦ held.Is (Building (record { floor = record { 0 = 100 * area } })) | false ↦ elim t as (λ _. Held) [ true ↦ elim u as (λ _. Held) [ true ↦ held.Is Open | false ↦ held.Filled ] | false ↦ held.Filled ] ] | false ↦ held.Filled ] ]) ≡ held.Is c → (elim p as (λ _. Containment) [ true ↦ Dike (record { area = record { 0 = 100 * area }; wall = wall }) | false ↦ elim r as (λ _. Containment) [ true ↦ Building (record { floor = record { 0 = 100 * area } }) | false ↦ Open ] ]) ≡ c
+    go true q r t u x = held-is x
+    go false true true t u x = held-is x
+    go false true false true true x = held-is x
+    go false true false true false x = let z : _≡_ {A = ℕ} 0 1 = cc in clash z
+    go false true false false u x = let z : _≡_ {A = ℕ} 0 1 = cc in clash z
+    go false false r t u x = let z : _≡_ {A = ℕ} 0 1 = cc in clash z
+
+-- the card of the bytes, and its ground, are those of its form
+module _ (card : List ℕ) (standing : Standing) (from : Stands (fieldsOf card) standing) where
+  pub ground-made : groundIn (byteAt card 2) ≡ standing .ground
+  unfolding fieldsOf
+  ground-made = ground-in (byteAt card 2) (standing .ground) (from .ground)
+
+  pub card-made : toxicCard card ≡ cardFrom (fieldsOf card) standing
+  unfolding fieldsOf
+  card-made = λ i.
+      cardFrom (fieldsOf card)
+      (record {
+        state = state-in (byteAt card 1) (standing .state) (from .state) i;
+        ground = ground-in (byteAt card 2) (standing .ground) (from .ground) i;
+        containment = held-in (byteAt card 3) (fieldsOf card .area) (fieldsOf card .wall) (standing .containment) (from .held) i;
+      })
