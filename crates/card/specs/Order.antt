@@ -8,6 +8,7 @@ use mathlib.Core.List.{List}
 use mathlib.Core.Logic.{_⊎_, inl, inr, ⊎-elim}
 use lib.Dec.{leb, eqb}
 use borrow.Author.Tests.{lt-leb, leb-false}
+use Rattle.search.specs.Laws.{clash}
 use Rattle.search.specs.Places.{either}
 use Rattle.units.specs.declared.Miles.{Miles}
 use Rattle.units.specs.declared.Reading.{Reading}
@@ -82,9 +83,6 @@ pub record Counterpart (x y : List ℕ) : Type 0 where
   pub floor : byteAt x 3 ≡ 2 → fourAt x 12 ≤ fourAt y 12
   pub route : routeOf x ≡ routeOf y
   pub table : tableOf x ≡ tableOf y
-
-clash : {A : Type 0} → _≡_ {A = ℕ} 0 1 → A
-clash z = absurd (omega arith)
 
 answer-is : {a b : Answer} → answered.Is a ≡ answered.Is b → a ≡ b
 answer-is e = cc

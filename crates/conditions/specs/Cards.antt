@@ -8,7 +8,7 @@ use mathlib.Core.List.{List, [], _∷_}
 use lib.Dec.{eqb, ltb}
 use borrow.Author.Tests.{eqb-true}
 use Rattle.search.specs.Rising.{both}
-use Rattle.search.specs.Laws.{both-true}
+use Rattle.search.specs.Laws.{clash, both-true}
 use Rattle.search.specs.Places.{either, among}
 use Rattle.units.specs.declared.Reading.{Reading}
 use Rattle.units.specs.declared.Reading.the-variants as reading
@@ -44,11 +44,11 @@ use Rattle.card.specs.declared.Answered.{Answered}
 use Rattle.card.specs.declared.Answered.the-variants as answered
 use Rattle.card.specs.Answers.{readToxic, plannedAnswer, readFlammable, answerFor, answerOf}
 use Rattle.conditions.specs.Conditions.{anyOf, ofGas, ofLiquid, ofTable13, badForm, badCas, badRange, aboveFifty, cellRead, withoutData, mismatched, toxicCard, groundIn, beyondPlan, beyond, ofCard}
-use Rattle.conditions.specs.First.{clash, Verdict, passed, refused, pick, firstOf}
+use Rattle.conditions.specs.First.{Verdict, passed, refused, pick, firstOf}
 use Rattle.conditions.specs.Form.{either-last, isRefused, form-is}
 use Rattle.conditions.specs.Substances.{Seen, a-gas, a-liquid, neither, seen}
-use Rattle.conditions.specs.Mismatch.{cardFrom, isMismatch, mismatch-is}
-use Rattle.conditions.specs.Vessel.{card-made, ground-made}
+use Rattle.conditions.specs.Mismatch.{isMismatch, mismatch-is}
+use Rattle.conditions.specs.Vessel.{cardFrom, card-made, ground-made}
 use Rattle.conditions.specs.Beyond.{isBeyond, reading-beyond, blast-beyond}
 
 -- an answer, or a refusal

@@ -59,7 +59,7 @@ toxic card = eqb (byteAt card 0) 1
 abbrev pub flammable : List ℕ → Bool
 flammable card = eqb (byteAt card 0) 2
 
--- a toxic card's bytes 1 to 3 unlisted, or a field of its filled that must be zero
+-- a toxic card's bytes 1 to 3 unlisted, or a field filled that must be zero
 unfoldable pub badToxic : List ℕ → Bool
 badToxic card =
     anyOf (

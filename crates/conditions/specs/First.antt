@@ -2,16 +2,12 @@
 -- Assumes nothing.
 use Prim.Native.Nat.{ℕ, zero, suc, _<_}
 use native.Mathlib.Nat.{le-of-suc-le-suc, not-suc-le-zero}
-use native.Mathlib.Omega.{arith}
 use mathlib.Core.Path.{_≡_, _∙_, refl, sym, ap}
 use mathlib.Core.Bool.{Bool, true, false}
 use mathlib.Core.List.{List, [], _∷_, _++_}
+use Rattle.search.specs.Laws.{clash}
 use Rattle.refusals.specs.declared.Refusal.{Refusal}
 use Rattle.conditions.specs.Conditions.{Condition, condition, only}
-
--- two numbers that differ are not equal: how a case that cannot be is left
-pub clash : {A : Type 0} → _≡_ {A = ℕ} 0 1 → A
-clash z = absurd (omega arith)
 
 -- whether the condition in a line holds, lines counted from 0; behind the last line none does
 abbrev pub holdsIn : List Condition → ℕ → Bool

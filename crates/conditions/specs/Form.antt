@@ -8,6 +8,7 @@ use mathlib.Core.Bool.{Bool, true, false, not}
 use mathlib.Core.List.{List, [], _∷_}
 use lib.Dec.{eqb, eqb·suc-zero}
 use borrow.Author.Tests.{ne-eqb}
+use Rattle.search.specs.Laws.{clash}
 use Rattle.search.specs.Rising.{both}
 use Rattle.search.specs.Places.{either, among}
 use Rattle.dispersion.specs.declared.Ground.the-variants.{Rural, Urban}
@@ -29,7 +30,6 @@ use Rattle.form.specs.declared.Shape.{Shape}
 use Rattle.form.specs.declared.Shape.the-variants as shape
 use Rattle.form.specs.Form.{stateOf, groundOf, openOf, heldOf, heatFits, shapedHeat, shapedHeld, shapedState, shapedBlank, shapeOf, blank}
 use Rattle.conditions.specs.Conditions.{unlisted, filled, badToxic, badFlammable, badForm}
-use Rattle.conditions.specs.First.{clash}
 
 pub state-is : {a b : State} → stateByte.Is a ≡ stateByte.Is b → a ≡ b
 state-is e = cc

@@ -2,8 +2,8 @@ pub mod Conditions
 pub mod First
 pub mod Form
 pub mod Substances
-pub mod Mismatch
 pub mod Vessel
+pub mod Mismatch
 pub mod Beyond
 pub mod Cards
 pub mod Claim

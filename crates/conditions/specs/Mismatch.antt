@@ -12,7 +12,7 @@ use lib.IntN.{ℤ, pos, negsuc}
 use lib.Signed.{ltZ}
 use borrow.Author.Tests.{eqb-true, ltb-false}
 use Rattle.search.specs.Rising.{both}
-use Rattle.search.specs.Laws.{both-true}
+use Rattle.search.specs.Laws.{clash, both-true}
 use Rattle.search.specs.Places.{either, among}
 use Rattle.exhibits.specs.declared.Cell.{Cell}
 use Rattle.exhibits.specs.declared.Cell.the-variants.{Factor, Lfb, NoData}
@@ -40,18 +40,16 @@ use Rattle.factors.specs.Factors.{ofCell, columnOf}
 use Rattle.factors.specs.Factors as tabled
 use Rattle.factors.specs.Columns.{columns, placeIn, closestFor, columns-closest, colder}
 use Rattle.buffer.specs.Numbers.{byteAt, twoAt, fourAt}
-use Rattle.fields.specs.declared.Fields.{Fields}
 use Rattle.fields.specs.Layout.{fieldsOf}
 use Rattle.form.specs.declared.StateByte.the-variants as stateByte
-use Rattle.form.specs.declared.Held.{Held}
 use Rattle.form.specs.declared.Held.the-variants as held
 use Rattle.form.specs.declared.Standing.{Standing}
-use Rattle.form.specs.Form.{stateOf, openOf, heldOf}
+use Rattle.form.specs.Form.{stateOf, heldOf}
 use Rattle.meaning.specs.Reading.{isListed, signed}
 use Rattle.form.specs.Inverse.{Stands}
-use Rattle.conditions.specs.Conditions.{anyOf, ofGas, ofLiquid, columnRead, cellRead, withoutData, aboveFifty, mismatched}
-use Rattle.conditions.specs.First.{clash}
+use Rattle.conditions.specs.Conditions.{anyOf, ofGas, ofLiquid, columnRead, cellRead, withoutData, aboveFifty, heldIn, mismatched}
 use Rattle.conditions.specs.Form.{state-is, no-state}
+use Rattle.conditions.specs.Vessel.{cardFrom, held-in}
 use Rattle.conditions.specs.Substances.{Seen, a-gas, a-liquid, neither, seen}
 
 -- the column that is read is the closest, at every tenth of a degree up to 50.0
@@ -126,19 +124,6 @@ factors-missing l t = go (ltZ (pos 500) t) refl
         column-missing l (columnOf t) (not-above t e)
         ∙ ap (λ p. withoutData (getD (cellsIn (l .corrections)) p NoData)) (place-read t e)
 
--- the meaning of a toxic card's fields, with its substance
-abbrev pub cardFrom : Fields → Standing → ToxicCard
-cardFrom f standing =
-    record {
-      cas = f .cas;
-      entry = toxicOf (f .cas);
-      state = standing .state;
-      ground = standing .ground;
-      quantity = record { 0 = f .pounds };
-      temperature = signed (f .heat);
-      containment = standing .containment;
-    }
-
 -- what no scenario fits
 abbrev pub isMismatch : Planned → Bool
 isMismatch (planned.Planned s) = false
@@ -149,21 +134,15 @@ isDike Open = false
 isDike (Dike d) = true
 isDike (Building b) = false
 
-pub held-is : {a b : Containment} → held.Is a ≡ held.Is b → a ≡ b
-held-is e = cc
-
 -- byte 3 is 1 exactly for a dike
 dike-byte : (b area wall : ℕ) (c : Containment) → heldOf b area wall ≡ held.Is c → eqb b 1 ≡ isDike c
-unfolding heldOf openOf
-dike-byte b area wall c e = go (eqb b 1) (eqb wall 0) (eqb b 2) (eqb b 0) (eqb area 0) e
+unfolding heldIn
+dike-byte b area wall c e = go (eqb b 1) (eqb b 2) ∙ ap isDike (held-in b area wall c e)
   where
-    go : (p q r t u : Bool) → (elim p as (λ _. Held) [ true ↦ held.Is (Dike (record { area = record { 0 = 100 * area }; wall = wall })) | false ↦ elim q as (λ _. Held) [ true ↦ elim r as (λ _. Held) [ true ↦ held.Is (Building (record { floor = record { 0 = 100 * area } })) | false ↦ elim t as (λ _. Held) [ true ↦ elim u as (λ _. Held) [ true ↦ held.Is Open | false ↦ held.Filled ] | false ↦ held.Filled ] ] | false ↦ held.Filled ] ]) ≡ held.Is c → p ≡ isDike c
-    go true q r t u x = ap isDike (held-is x)
-    go false true true t u x = ap isDike (held-is x)
-    go false true false true true x = ap isDike (held-is x)
-    go false true false true false x = let z : _≡_ {A = ℕ} 0 1 = cc in clash z
-    go false true false false u x = let z : _≡_ {A = ℕ} 0 1 = cc in clash z
-    go false false r t u x = let z : _≡_ {A = ℕ} 0 1 = cc in clash z
+    go : (p r : Bool) → p ≡ isDike (elim p as (λ _. Containment) [ true ↦ Dike (record { area = record { 0 = 100 * area }; wall = wall }) | false ↦ elim r as (λ _. Containment) [ true ↦ Building (record { floor = record { 0 = 100 * area } }) | false ↦ Open ] ])
+    go true r = refl
+    go false true = refl
+    go false false = refl
 
 undiked-mismatch : (c : Containment) (s : Scenario) → isDike c ≡ isMismatch (undiked c s)
 undiked-mismatch Open s = refl

@@ -5,13 +5,17 @@ use mathlib.Core.Path.{_≡_}
 use mathlib.Core.Bool.{Bool, true, false}
 use mathlib.Core.List.{List}
 use lib.Dec.{eqb}
+use Rattle.search.specs.Laws.{clash}
 use Rattle.dispersion.specs.declared.Ground.{Ground}
 use Rattle.dispersion.specs.declared.Ground.the-variants.{Rural, Urban}
 use Rattle.release.specs.declared.Containment.{Containment}
 use Rattle.release.specs.declared.Containment.the-variants.{Open, Dike, Building}
 use Rattle.scenario.specs.declared.State.{State}
 use Rattle.scenario.specs.declared.State.the-variants.{Gas, Pressurized, Refrigerated, Liquid}
+use Rattle.exhibits.specs.Exhibits.{toxicOf}
+use Rattle.scenario.specs.declared.ToxicCard.{ToxicCard}
 use Rattle.buffer.specs.Numbers.{byteAt}
+use Rattle.fields.specs.declared.Fields.{Fields}
 use Rattle.fields.specs.Layout.{fieldsOf}
 use Rattle.form.specs.declared.StateByte.{StateByte}
 use Rattle.form.specs.declared.StateByte.the-variants as stateByte
@@ -22,10 +26,25 @@ use Rattle.form.specs.declared.Held.the-variants as held
 use Rattle.form.specs.declared.Standing.{Standing}
 use Rattle.form.specs.Form.{stateOf, groundOf, openOf, heldOf}
 use Rattle.form.specs.Inverse.{Stands}
+use Rattle.meaning.specs.Reading.{signed}
 use Rattle.conditions.specs.Conditions.{stateIn, groundIn, heldIn, toxicCard}
-use Rattle.conditions.specs.First.{clash}
 use Rattle.conditions.specs.Form.{state-is}
-use Rattle.conditions.specs.Mismatch.{held-is, cardFrom}
+
+-- the meaning of a toxic card's fields, with its substance
+abbrev pub cardFrom : Fields → Standing → ToxicCard
+cardFrom f standing =
+    record {
+      cas = f .cas;
+      entry = toxicOf (f .cas);
+      state = standing .state;
+      ground = standing .ground;
+      quantity = record { 0 = f .pounds };
+      temperature = signed (f .heat);
+      containment = standing .containment;
+    }
+
+held-is : {a b : Containment} → held.Is a ≡ held.Is b → a ≡ b
+held-is e = cc
 
 state-in : (b : ℕ) (s : State) → stateOf b ≡ stateByte.Is s → stateIn b ≡ s
 unfolding stateOf stateIn
@@ -50,7 +69,7 @@ ground-in b g e = go (eqb b 1) (eqb b 2) e
     go false true x = ground-is x
     go false false x = let z : _≡_ {A = ℕ} 0 1 = cc in clash z
 
-held-in : (b area wall : ℕ) (c : Containment) → heldOf b area wall ≡ held.Is c → heldIn b area wall ≡ c
+pub held-in : (b area wall : ℕ) (c : Containment) → heldOf b area wall ≡ held.Is c → heldIn b area wall ≡ c
 unfolding heldOf openOf heldIn
 held-in b area wall c e = go (eqb b 1) (eqb wall 0) (eqb b 2) (eqb b 0) (eqb area 0) e
   where

@@ -7,6 +7,7 @@ use mathlib.Core.Path.{_≡_, _∙_, refl, sym, ap, subst₂}
 use mathlib.Core.Bool.{Bool, true, false}
 use lib.Dec.{eqb}
 use borrow.Author.Tests.{eqb-true}
+use Rattle.search.specs.Laws.{clash}
 use Rattle.release.specs.declared.Containment.{Containment}
 use Rattle.release.specs.declared.Containment.the-variants.{Open, Dike, Building}
 use Rattle.release.specs.Laws.{Looser, open-open, dike-dike, building-building}
@@ -26,9 +27,6 @@ use Rattle.form.specs.declared.Shape.the-variants as shape
 use Rattle.form.specs.Form.{stateOf, groundOf, openOf, heldOf, heatFits, shapedHeat, shapedHeld, shapedState, blank, shapedBlank, shapeOf}
 
 -- two constructors that are equal prove anything
-pub clash : {A : Type 0} → _≡_ {A = ℕ} 0 1 → A
-clash z = absurd (omega arith)
-
 -- the shape that a toxic card has
 not-refused-shape : {standing : Standing} {r : Refusal} → shape.Refused r ≡ shape.Toxic standing → ⊥
 not-refused-shape e = let z : _≡_ {A = ℕ} 0 1 = cc in clash z

@@ -5,6 +5,7 @@ use native.Mathlib.Omega.{arith}
 use mathlib.Core.Path.{_≡_, _∙_, refl, ap, ap₂, sym, subst}
 use mathlib.Core.List.{List, [], _∷_, _++_}
 use lib.ListN.{length, take, drop, length-take}
+use Rattle.search.specs.Laws.{clash}
 use Rattle.refusals.specs.declared.Refusal.{Refusal}
 use Rattle.refusals.specs.Numbers.{numberOf}
 use Rattle.card.specs.declared.Answer.{Answer}
@@ -24,9 +25,6 @@ use Rattle.listing.specs.declared.Listed.{Listed}
 use Rattle.listing.specs.declared.Listed.the-variants as listed
 use Rattle.listing.specs.Listing.{enough, cardLines, leaderLines, listingOf, listedAfter, Within}
 use Rattle.listing.specs.Walk.{lined, linesFrom}
-
-clash : {A : Type 0} → _≡_ {A = ℕ} 0 1 → A
-clash z = absurd (omega arith)
 
 -- over cards that are all answered the walk gives a line for each
 pub lines-is : (n place last : ℕ) (bytes : List ℕ) (xs : List Answer) → cardsFrom n place last bytes ≡ answers xs → linesFrom n last bytes ≡ cardLines xs

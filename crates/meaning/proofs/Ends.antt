@@ -125,7 +125,7 @@ module _ (f : Fields) where
       let u : badWall (f .wall) ≡ true = lt-ltb 10_000 (f .wall) w in
       simp (p, s, u)
 
-  pub bounds-heat : (b d k : Bool) (t : ℤ) → b ≡ badPounds (f .pounds) → b ≡ false → d ≡ badArea (f .containment) (f .area) → d ≡ false → f .wall ≤ 10_000 → t ≡ signed (f .heat) → k ≡ badHeat t → k ≡ true → bounds.Refused refusal.Range ≡ boundsOf f
+  bounds-heat : (b d k : Bool) (t : ℤ) → b ≡ badPounds (f .pounds) → b ≡ false → d ≡ badArea (f .containment) (f .area) → d ≡ false → f .wall ≤ 10_000 → t ≡ signed (f .heat) → k ≡ badHeat t → k ≡ true → bounds.Refused refusal.Range ≡ boundsOf f
   unfolding boundsOf badWall
   bounds-heat b d k t e q g r w m h u =
       let p : badPounds (f .pounds) ≡ false = sym e ∙ q in
@@ -134,7 +134,7 @@ module _ (f : Fields) where
       let v : badHeat (signed (f .heat)) ≡ true = ap badHeat (sym m) ∙ (sym h ∙ u) in
       simp (p, s, x, v)
 
-  pub bounds-within : (b d k : Bool) (t : ℤ) → b ≡ badPounds (f .pounds) → b ≡ false → d ≡ badArea (f .containment) (f .area) → d ≡ false → f .wall ≤ 10_000 → t ≡ signed (f .heat) → k ≡ badHeat t → k ≡ false → bounds.Within t ≡ boundsOf f
+  bounds-within : (b d k : Bool) (t : ℤ) → b ≡ badPounds (f .pounds) → b ≡ false → d ≡ badArea (f .containment) (f .area) → d ≡ false → f .wall ≤ 10_000 → t ≡ signed (f .heat) → k ≡ badHeat t → k ≡ false → bounds.Within t ≡ boundsOf f
   unfolding boundsOf badWall
   bounds-within b d k t e q g r w m h u =
       let p : badPounds (f .pounds) ≡ false = sym e ∙ q in
@@ -188,12 +188,12 @@ module _ (f : Fields) where
   toxic-refused x standing b d r e g q h k m n =
       ap meaning.Refused (n ∙ ap boundsRefusal m) ∙ (ap (λ y. toxicBounded y f x standing) (sym m) ∙ listed-meaning x standing b d e g q h)
 
-  pub toxic-is : (x : Toxic) (standing : Standing) (b : Bool) (d : Bounds) (t : ℤ) (n : Pounds) → x ≡ toxicOf (f .cas) → b ≡ isListed x → not b ≡ false → d ≡ boundsOf f → d ≡ bounds.Within t → n .0 ≡ f .pounds → meaning.Toxic (record { cas = f .cas; entry = x; state = standing .state; ground = standing .ground; quantity = n; temperature = t; containment = standing .containment }) ≡ toxicMeaning (toxicOf (f .cas)) f standing
+  toxic-is : (x : Toxic) (standing : Standing) (b : Bool) (d : Bounds) (t : ℤ) (n : Pounds) → x ≡ toxicOf (f .cas) → b ≡ isListed x → not b ≡ false → d ≡ boundsOf f → d ≡ bounds.Within t → n .0 ≡ f .pounds → meaning.Toxic (record { cas = f .cas; entry = x; state = standing .state; ground = standing .ground; quantity = n; temperature = t; containment = standing .containment }) ≡ toxicMeaning (toxicOf (f .cas)) f standing
   toxic-is x standing b d t n e g q h m k =
       (λ i. meaning.Toxic (record { cas = f .cas; entry = x; state = standing .state; ground = standing .ground; quantity = record { 0 = k i }; temperature = t; containment = standing .containment }))
       ∙ (ap (λ y. toxicBounded y f x standing) (sym m) ∙ listed-meaning x standing b d e g q h)
 
-  pub toxic-limits : (x : Toxic) (d : Bounds) (t : ℤ) (n : Pounds) → x ≡ toxicOf (f .cas) → BoundsLimits f d → d ≡ bounds.Within t → n .0 ≡ f .pounds → (n .0 ≤ 10_000_000) × Within x
+  toxic-limits : (x : Toxic) (d : Bounds) (t : ℤ) (n : Pounds) → x ≡ toxicOf (f .cas) → BoundsLimits f d → d ≡ bounds.Within t → n .0 ≡ f .pounds → (n .0 ≤ 10_000_000) × Within x
   toxic-limits x d t n e l m k =
       let p : f .pounds ≤ 10_000_000 = subst (BoundsLimits f) m l in
       (rw k p, subst Within (sym e) (within (f .cas)))

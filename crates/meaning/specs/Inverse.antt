@@ -4,6 +4,7 @@ use Prim.Native.Nat.{ℕ}
 use mathlib.Core.Path.{_≡_, _∙_, refl, sym, ap}
 use mathlib.Core.Bool.{Bool, true, false, not}
 use lib.IntN.{ℤ}
+use Rattle.search.specs.Laws.{clash}
 use Rattle.exhibits.specs.declared.Toxic.{Toxic}
 use Rattle.exhibits.specs.Exhibits.{toxicOf}
 use Rattle.scenario.specs.declared.ToxicCard.{ToxicCard}
@@ -18,7 +19,7 @@ use Rattle.form.specs.declared.Standing.{Standing}
 use Rattle.form.specs.declared.Shape.{Shape}
 use Rattle.form.specs.declared.Shape.the-variants as shape
 use Rattle.form.specs.Form.{stateOf, groundOf, heldOf, shapeOf}
-use Rattle.form.specs.Inverse.{clash, toxic-shape, flammable-shape}
+use Rattle.form.specs.Inverse.{toxic-shape, flammable-shape}
 use Rattle.meaning.specs.declared.Bounds.{Bounds}
 use Rattle.meaning.specs.declared.Bounds.the-variants as bounds
 use Rattle.meaning.specs.declared.FlammableCard.{FlammableCard}

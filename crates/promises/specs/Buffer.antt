@@ -8,6 +8,7 @@ use mathlib.Core.List.{List, [], _∷_, _++_, append-assoc}
 use lib.ListN.{length, getD, drop, List·getD-append}
 use lib.Seq.{getD-append-add, getD-drop}
 use borrow.Author.Tests.{le-ltb}
+use Rattle.search.specs.Laws.{clash}
 use Rattle.refusals.specs.declared.Refusal.{Refusal}
 use Rattle.refusals.specs.declared.Refusal.the-variants as refusal
 use Rattle.card.specs.declared.Answer.{Answer}
@@ -25,9 +26,6 @@ use Rattle.register.specs.Register.{Cards, answers, sent-back, cardsFrom, cards
 use Rattle.register.specs.Laws.{cards-count, bytes-length}
 use Rattle.ordering.specs.Claim.{cardAt, Accepts}
 use Rattle.ordering.specs.Found.{Found, found, header-count, to-card}
-
-clash : {A : Type 0} → _≡_ {A = ℕ} 0 1 → A
-clash z = absurd (omega arith)
 
 good-filled : (bytes out : List ℕ) (h : Header) {l : Leaders} (f : Found bytes l) → headerOf bytes (length out) ≡ h → afterHeader h bytes ≡ outcome.Accepted l → filledAfter h bytes out ≡ bytesOf (f .list) ++ drop (length (bytesOf (f .list))) out
 unfolding cardsOf

@@ -6,6 +6,7 @@ use mathlib.Core.Path.{_≡_, _∙_, refl, ap, sym, subst}
 use mathlib.Core.List.{List, [], _∷_, _++_}
 use lib.ListN.{length, take, drop, length-append, length-take, length-drop}
 use lib.Seq.{sets, take-all, take-at}
+use Rattle.search.specs.Laws.{clash}
 use Rattle.buffer.specs.Wrote.{Wrote}
 use Rattle.buffer.specs.Laws.{sets-append, written-first}
 use Rattle.refusals.specs.declared.Refusal.{Refusal}
@@ -24,9 +25,6 @@ use Rattle.walk.specs.declared.Outcome.{Outcome}
 use Rattle.walk.specs.declared.Outcome.the-variants as outcome
 use Rattle.register.specs.Register.{Cards, answers, sent-back, joined, then, cardsFrom, cardsOf, resultOf, afterHeader, outcomeOf, bytesOf, filledWith, filledAfter, bufferOf}
 use Rattle.walk.specs.Walks.{surveyed, surveyFrom, filled, fillFrom}
-
-clash : {A : Type 0} → _≡_ {A = ℕ} 0 1 → A
-clash z = absurd (omega arith)
 
 -- the result of cards, with the leaders before them
 abbrev pub resultFrom : Leaders → Cards → Outcome

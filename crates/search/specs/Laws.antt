@@ -13,6 +13,10 @@ use lib.ListN.{length, getD}
 use borrow.Author.Tests.{le-leb, lt-leb, leb-true}
 use Rattle.search.specs.Rising.{firstAtLeast, both, rises, risesFrom}
 
+-- 0 is not 1: how a case that cannot be is left
+pub clash : {A : Type 0} → _≡_ {A = ℕ} 0 1 → A
+clash z = absurd (omega arith)
+
 -- of two numbers the first is smaller, or the second is not larger
 pub lt-or-ge : (a b : ℕ) → (a < b) ⊎ (b ≤ a)
 lt-or-ge a zero = inr zero-le

@@ -1,10 +1,10 @@
--- `cases::fill` is safe: the buffer that it lends and the line that it prints are parts of what it has.
+-- `trials::fill` is safe: the buffer that it lends and the line that it prints are parts of what it has.
 -- Assumes nothing.
 use native.Mathlib.Omega.{arith}
 use Rattle.listing.specs.Laws.{part-length}
 use borrow.Author.Needs.{needs}
-use Rattle.cases.proofs.fill.Statement.{statement}
-use Rattle.cases.proofs.fill.Tie as tie
+use Rattle.trials.proofs.fill.Statement.{statement}
+use Rattle.trials.proofs.fill.Tie as tie
 
 slice-aggregate-write-all : tie.Need-slice-aggregate-write-all
 slice-aggregate-write-all c = search needs

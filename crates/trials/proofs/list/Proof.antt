@@ -1,9 +1,9 @@
--- `cases::list` is safe: what it prints is a part of the text.
+-- `trials::list` is safe: what it prints is a part of the text.
 -- Assumes nothing.
 use Rattle.listing.specs.Laws.{text-part, part-length}
 use borrow.Author.Needs.{needs}
-use Rattle.cases.proofs.list.Statement.{statement}
-use Rattle.cases.proofs.list.Tie as tie
+use Rattle.trials.proofs.list.Statement.{statement}
+use Rattle.trials.proofs.list.Tie as tie
 
 list-requires : tie.Need-list-requires
 list-requires c κs = search needs
