@@ -3,3 +3,4 @@ pub mod Laws
 pub mod Places
 pub mod PlaceLaws
 pub mod Flat
+pub mod Arms
