@@ -1,14 +1,14 @@
 -- What other crates use of the exhibits instead of their text: each factor is within the limit that the paper gives it.
 -- Assumes nothing.
 use Prim.Native.Nat.{ℕ, _≤_}
-use mathlib.Core.Path.{_≡_, refl, sym, _∙_}
+use mathlib.Core.Path.{_≡_, refl, ap, sym, _∙_}
 use mathlib.Core.List.{List, _++_, map}
 use mathlib.Core.Bool.{Bool, true, false}
 use lib.Dec.{leb}
-use lib.ListN.{length}
-use borrow.Author.Tests.{leb-true, le-ltb}
-use Rattle.search.specs.Places.{placeOf, among, every, lookUp}
-use Rattle.search.specs.PlaceLaws.{place-among, among-apart, sorted-among, look-none, look-each}
+use borrow.Author.Tests.{leb-true}
+use Rattle.search.specs.Places.{among, every, lookUp}
+use Rattle.search.specs.Arms.{Missed, missed}
+use Rattle.search.specs.PlaceLaws.{among-apart, look-none, look-each}
 use Rattle.exhibits.specs.declared.Cell.{Cell}
 use Rattle.exhibits.specs.declared.Cell.the-variants.{Factor, Lfb, NoData}
 use Rattle.exhibits.specs.declared.Toxic.{Toxic}
@@ -17,16 +17,19 @@ use Rattle.exhibits.specs.PrintedB1.{b1}
 use Rattle.exhibits.specs.PrintedB2.{b2}
 use Rattle.exhibits.specs.PrintedB4.{b4}
 use Rattle.exhibits.specs.Exhibits.{gasCas, liquidCas, gasIn, liquidIn, factorsOf, toxicOf}
-use Rattle.exhibits.specs.Columns.{order, lfaOf, lfbOf, dfOf, correctionsOf}
+use Rattle.exhibits.specs.Lines.{lfaOf, lfbOf, dfOf, correctionsOf, lineOf}
 
--- a CAS number without a place in the order is in neither exhibit
-pub not-listed : (cas : ℕ) → length order ≤ placeOf cas order → toxicOf cas ≡ NotListed
-unfolding toxicOf order
-not-listed cas h =
-    let absent : among cas order ≡ false = sym (place-among cas order) ∙ le-ltb (placeOf cas order) (length order) h in
-    let apart = among-apart cas (map gasCas b1) (map liquidCas b2) (sym (sorted-among cas (map gasCas b1 ++ map liquidCas b2)) ∙ absent) in
+-- a CAS number that is in neither exhibit
+pub not-listed : (cas : ℕ) → among cas (map gasCas b1 ++ map liquidCas b2) ≡ false → toxicOf cas ≡ NotListed
+unfolding toxicOf
+not-listed cas absent =
+    let apart = among-apart cas (map gasCas b1) (map liquidCas b2) absent in
     look-none gasCas gasIn cas b1 (lookUp liquidCas liquidIn cas b2 NotListed) (apart .0)
     ∙ look-none liquidCas liquidIn cas b2 NotListed (apart .1)
+
+-- the line of a CAS number that no line of either exhibit has
+pub no-line : (cas : ℕ) → Missed cas (map gasCas b1 ++ map liquidCas b2) → lineOf NotListed ≡ lineOf (toxicOf cas)
+no-line cas m = ap lineOf (sym (not-listed cas (missed cas (map gasCas b1 ++ map liquidCas b2) m)))
 
 -- a test that passes at each line of the exhibits, and where nothing is listed, passes at any CAS number
 pub listed : (ok : Toxic → Bool) → ok NotListed ≡ true → every (λ g. ok (gasIn g)) b1 ≡ true → every (λ l. ok (liquidIn l)) b2 ≡ true → (cas : ℕ) → ok (toxicOf cas) ≡ true

@@ -3,5 +3,5 @@ pub mod PrintedB1
 pub mod PrintedB2
 pub mod PrintedB4
 pub mod Exhibits
-pub mod Columns
+pub mod Lines
 pub mod Laws

@@ -1,19 +1,9 @@
 // Exhibits B-1, B-2 and B-4: what they say of a toxic substance. A mark for no data is a case of its own, never a number.
 mod tables;
 
-use tables::CAS;
-use tables::CELL;
-use tables::DENSE;
-use tables::DF;
-use tables::ENDPOINT;
-use tables::IS_GAS;
-use tables::LFA;
-use tables::LFB;
 ghost use mathlib.Core.Path.{_≡_};
-ghost use Prim.Native.Nat.{_+_, _*_, _<_};
-ghost use lib.ListN.{length, getD};
 ghost use Rattle.exhibits.specs.Exhibits.{toxicOf};
-ghost use Rattle.exhibits.specs.Columns.{toxicAt, plumeFrom, cellFrom, gasFrom, liquidFrom, correctionsOf};
+ghost use Rattle.exhibits.specs.Lines.{plumeFrom, cellFrom, correctionsFrom, gasFrom, liquidFrom};
 
 // How the worst-case plume behaves in air.
 pub enum Plume {
@@ -62,6 +52,22 @@ pub enum Toxic {
     NotListed,
 }
 
+// The exhibits' line of a substance, in numbers: 1 for a gas of B-1, 2 for a liquid of B-2, 0 for neither; 1 for a dense plume;
+// a cell of B-4 as a factor, 65534 for LFB or 65535 for no data.
+struct Line {
+    kind: u8,
+    lfa: u32,
+    lfb: u32,
+    df: u8,
+    endpoint: u32,
+    dense: u8,
+    at30: u16,
+    at35: u16,
+    at40: u16,
+    at45: u16,
+    at50: u16,
+}
+
 fn plume_from(dense: u8) -> Plume
     ensures { λ r. ⌜ r ≡ plumeFrom dense ⌝ }
 {
@@ -84,52 +90,39 @@ fn cell_from(code: u16) -> Cell
     Cell::Factor(code)
 }
 
-// The cell of a substance in a column, out of the cells of all of them. The array is lent, so that five cells of one
-// substance need it only once.
-fn cell_in(codes: &[u16], row: usize, column: usize) -> Cell
-    requires { ⌜ (row < 74) × (column < 5) × (length (now codes) ≡ 370) ⌝ }
-    ensures { λ r. ⌜ r ≡ cellFrom (getD (now (codes .entry)) (row * 5 + column) 0) ⌝ }
+fn corrections_in(line: Line) -> Corrections
+    ensures { λ r. ⌜ r ≡ correctionsFrom line ⌝ }
 {
-    cell_from(codes[row * 5 + column])
-}
-
-fn corrections_at(row: usize) -> Corrections
-    requires { ⌜ row < 74 ⌝ }
-    ensures { λ r. ⌜ r ≡ correctionsOf (toxicAt row) ⌝ }
-{
-    let codes = &CELL;
     Corrections {
-        at30: cell_in(codes, row, 0),
-        at35: cell_in(codes, row, 1),
-        at40: cell_in(codes, row, 2),
-        at45: cell_in(codes, row, 3),
-        at50: cell_in(codes, row, 4),
+        at30: cell_from(line.at30),
+        at35: cell_from(line.at35),
+        at40: cell_from(line.at40),
+        at45: cell_from(line.at45),
+        at50: cell_from(line.at50),
     }
 }
 
-fn gas_at(row: usize) -> Gas
-    requires { ⌜ row < 74 ⌝ }
-    ensures { λ r. ⌜ r ≡ gasFrom (toxicAt row) ⌝ }
+fn gas_in(line: Line) -> Gas
+    ensures { λ r. ⌜ r ≡ gasFrom line ⌝ }
 {
     Gas {
-        lfb: LFB[row],
-        df: DF[row],
-        endpoint: ENDPOINT[row],
-        plume: plume_from(DENSE[row]),
+        lfb: line.lfb,
+        df: line.df,
+        endpoint: line.endpoint,
+        plume: plume_from(line.dense),
     }
 }
 
-fn liquid_at(row: usize) -> Liquid
-    requires { ⌜ row < 74 ⌝ }
-    ensures { λ r. ⌜ r ≡ liquidFrom (toxicAt row) ⌝ }
+fn liquid_in(line: Line) -> Liquid
+    ensures { λ r. ⌜ r ≡ liquidFrom line ⌝ }
 {
     Liquid {
-        lfa: LFA[row],
-        lfb: LFB[row],
-        df: DF[row],
-        endpoint: ENDPOINT[row],
-        plume: plume_from(DENSE[row]),
-        corrections: corrections_at(row),
+        lfa: line.lfa,
+        lfb: line.lfb,
+        df: line.df,
+        endpoint: line.endpoint,
+        plume: plume_from(line.dense),
+        corrections: corrections_in(line),
     }
 }
 
@@ -137,12 +130,12 @@ fn liquid_at(row: usize) -> Liquid
 pub fn toxic_of(cas: u32) -> Toxic
     ensures { λ r. ⌜ r ≡ toxicOf cas ⌝ }
 {
-    let row = search::place_of(&CAS, cas as u64);
-    if row < CAS.len() {
-        if IS_GAS[row] == 1 {
-            return Toxic::OfGas(gas_at(row));
-        }
-        return Toxic::OfLiquid(liquid_at(row));
+    let line = tables::line_of(cas);
+    if line.kind == 1 {
+        return Toxic::OfGas(gas_in(line));
+    }
+    if line.kind == 2 {
+        return Toxic::OfLiquid(liquid_in(line));
     }
     Toxic::NotListed
 }

@@ -9,7 +9,7 @@ use Rattle.search.specs.Places.{among, lookUp}
 use Rattle.exhibits.specs.PrintedB1.{b1}
 use Rattle.exhibits.specs.PrintedB2.{b2}
 use Rattle.exhibits.specs.PrintedB4.{b4}
-use Rattle.exhibits.specs.Columns.{dfOf}
+use Rattle.exhibits.specs.Lines.{dfOf}
 use Rattle.exhibits.specs.Exhibits.{factorsOf, toxicOf}
 use Rattle.neutral.specs.PrintedNeutral.{table1, table2, table3, table4}
 use Rattle.dense.specs.PrintedDense.{endpoints5, endpoints6, endpoints7, endpoints8, rates5, rates6, rates7, rates8, table5, table6, table7, table8}

@@ -1,11 +1,8 @@
--- The exhibits as the code keeps them: a column for each field, in the rising order of the CAS numbers.
+-- The exhibits as the code keeps them: of each substance a line of numbers.
 -- Assumes nothing.
 use Prim.Native.Nat.{ℕ}
-use mathlib.Core.List.{List, [], _∷_, _++_, map}
 use mathlib.Core.Bool.{Bool, true, false}
 use lib.Dec.{eqb}
-use lib.ListN.{getD}
-use Rattle.search.specs.Places.{sorted}
 use Rattle.exhibits.specs.declared.Cell.{Cell}
 use Rattle.exhibits.specs.declared.Cell.the-variants.{Factor, Lfb, NoData}
 use Rattle.exhibits.specs.declared.Plume.{Plume}
@@ -13,25 +10,17 @@ use Rattle.exhibits.specs.declared.Plume.the-variants.{Neutral, Dense}
 use Rattle.exhibits.specs.declared.Corrections.{Corrections}
 use Rattle.exhibits.specs.declared.Gas.{Gas}
 use Rattle.exhibits.specs.declared.Liquid.{Liquid}
+use Rattle.exhibits.specs.declared.Line.{Line}
 use Rattle.exhibits.specs.declared.Toxic.{Toxic}
 use Rattle.exhibits.specs.declared.Toxic.the-variants.{OfGas, OfLiquid, NotListed}
-use Rattle.exhibits.specs.PrintedB1.{b1}
-use Rattle.exhibits.specs.PrintedB2.{b2}
-use Rattle.exhibits.specs.Exhibits.{gasCas, liquidCas, noData, toxicOf}
+use Rattle.exhibits.specs.Exhibits.{noData}
 
--- the CAS numbers of both exhibits in rising order
-unfoldable pub order : List ℕ
-order = sorted (map gasCas b1 ++ map liquidCas b2)
-
--- the substance in a row
-unfoldable pub toxicAt : ℕ → Toxic
-toxicAt row = toxicOf (getD order row 0)
-
--- the fields of a substance; one that it does not have is kept as 0, or as no data
+-- the fields of a substance; one that it does not have is kept as 0, or as no data. Its kind is 1 for a gas of B-1, 2 for a
+-- liquid of B-2, 0 for neither.
 abbrev pub kindOf : Toxic → ℕ
 kindOf (OfGas g) = 1
-kindOf (OfLiquid l) = 0
-kindOf NotListed = 2
+kindOf (OfLiquid l) = 2
+kindOf NotListed = 0
 
 abbrev pub lfaOf : Toxic → ℕ
 lfaOf (OfGas g) = 0
@@ -63,14 +52,6 @@ correctionsOf (OfGas g) = noData
 correctionsOf (OfLiquid l) = l .corrections
 correctionsOf NotListed = noData
 
--- the gas and the liquid with those fields
-abbrev pub gasFrom : Toxic → Gas
-gasFrom t = record { lfb = lfbOf t; df = dfOf t; endpoint = endpointOf t; plume = plumeOf t }
-
-abbrev pub liquidFrom : Toxic → Liquid
-liquidFrom t =
-    record { lfa = lfaOf t; lfb = lfbOf t; df = dfOf t; endpoint = endpointOf t; plume = plumeOf t; corrections = correctionsOf t }
-
 -- a plume as a number, and back
 abbrev pub denseOf : Plume → ℕ
 denseOf Neutral = 0
@@ -96,10 +77,19 @@ pickCell false x y = y
 abbrev pub cellFrom : ℕ → Cell
 cellFrom n = pickCell (eqb n 65534) Lfb (pickCell (eqb n 65535) NoData (Factor n))
 
--- the five cells of a substance as numbers
-abbrev pub codesOf : Corrections → List ℕ
-codesOf x = codeOf (x .at30) ∷ codeOf (x .at35) ∷ codeOf (x .at40) ∷ codeOf (x .at45) ∷ codeOf (x .at50) ∷ []
+-- the line of a substance
+abbrev pub lineOf : Toxic → Line
+lineOf t =
+    record { kind = kindOf t; lfa = lfaOf t; lfb = lfbOf t; df = dfOf t; endpoint = endpointOf t; dense = denseOf (plumeOf t); at30 = codeOf (correctionsOf t .at30); at35 = codeOf (correctionsOf t .at35); at40 = codeOf (correctionsOf t .at40); at45 = codeOf (correctionsOf t .at45); at50 = codeOf (correctionsOf t .at50) }
 
--- the cell in a row and a column
-unfoldable pub cellAt : ℕ → ℕ → Cell
-cellAt row column = cellFrom (getD (codesOf (correctionsOf (toxicAt row))) column 0)
+-- the cells, the gas and the liquid of a line
+abbrev pub correctionsFrom : Line → Corrections
+correctionsFrom l =
+    record { at30 = cellFrom (l .at30); at35 = cellFrom (l .at35); at40 = cellFrom (l .at40); at45 = cellFrom (l .at45); at50 = cellFrom (l .at50) }
+
+abbrev pub gasFrom : Line → Gas
+gasFrom l = record { lfb = l .lfb; df = l .df; endpoint = l .endpoint; plume = plumeFrom (l .dense) }
+
+abbrev pub liquidFrom : Line → Liquid
+liquidFrom l =
+    record { lfa = l .lfa; lfb = l .lfb; df = l .df; endpoint = l .endpoint; plume = plumeFrom (l .dense); corrections = correctionsFrom l }
