@@ -614,20 +614,33 @@ def neutral_arrays(tables):
     return rt_file("data/table01.tsv to table04.tsv", arrays)
 
 
-def dense_arrays(tables):
+def dense_rows(tables):
     where = "data/table05.tsv to table08.tsv"
     first = tables[DENSE_TABLES[0]]
     expect(all(table["rates"] == first["rates"] for table in tables.values()), where, "they differ in their rates")
     expect(all(table["endpoints"] == first["endpoints"] for table in tables.values()), where, "they differ in their endpoints")
-    entries = flat(
-        flat(entries_in_use([[distance_read(mark) for mark in row] for row in table["marks"]])) for table in tables.values())
+    rows = flat(entries_in_use([[distance_read(mark) for mark in row] for row in table["marks"]]) for table in tables.values())
+    arms = [(f"Table {DENSE_TABLES[place // DENSE_ROW_COUNT]}" if place % DENSE_ROW_COUNT == 0 else None, place, str(row))
+            for place, row in enumerate(rows)]
     return rt_file(where, [
         *rate_arrays("Tables 5 to 8", "ROW_UPTO", "LAST_ROW", first["rates"]),
         rt_array("Tables 5 to 8: the largest endpoint that reads each column but the last, in hundred-thousandths of mg/L.",
                  "COLUMN_UPTO", 64, endpoint_cuts(first["endpoints"])),
-        rt_array(f"Tables 5 to 8: the entries in use in hundredths of a mile, row by row, {DENSE_ROW_COUNT * DENSE_COLUMN_COUNT} "
-                 "a table.", "DENSE", 16, entries),
-    ])
+        rt_match(f"Tables 5 to 8: the entries in use in hundredths of a mile, {DENSE_ROW_COUNT} rows a table.",
+                 f"row_of(row: usize) -> [u16; {DENSE_COLUMN_COUNT}]", "r ≡ getD denseRows row noRow", "row", arms,
+                 f"[0; {DENSE_COLUMN_COUNT}]"),
+    ], ["ghost use mathlib.Core.Path.{_≡_};", "ghost use lib.ListN.{getD};",
+        "ghost use Rattle.dense.specs.Grids.{denseRows, noRow};"])
+
+
+def dense_proof():
+    return arms_proof(
+        "dense", "tables", "row_of",
+        ["use mathlib.Core.Path.{refl, sym}", "use lib.ListN.{getD, List·getD-eq-default}",
+         "use Rattle.search.specs.Flat.{flat}", "use Rattle.search.specs.Arms.{arm, beyond}",
+         "use Rattle.rules.specs.Carried.{gridInUse}", "use Rattle.dense.specs.Grids.{denseTables, denseRows, noRow}"],
+        "denseRows denseTables gridInUse flat", "(λ n. getD denseRows n noRow) _", range(DENSE_ROW_COUNT * len(DENSE_TABLES)),
+        f"sym (List·getD-eq-default denseRows noRow (beyond _ {DENSE_ROW_COUNT * len(DENSE_TABLES)} (c .match .rest)))")
 
 
 def chemical_arrays(tables):
@@ -672,7 +685,8 @@ def generated_files():
         "crates/neutral/specs/PrintedNeutral.antt": printed_neutral(neutral),
         "crates/neutral/src/tables.rt": neutral_arrays(neutral),
         "crates/dense/specs/PrintedDense.antt": printed_dense(dense),
-        "crates/dense/src/tables.rt": dense_arrays(dense),
+        "crates/dense/src/tables.rt": dense_rows(dense),
+        "crates/dense/proofs/tables/row_of/Proof.antt": dense_proof(),
         "crates/dispersion/specs/PrintedChemical.antt": printed_chemical(chemical),
         "crates/dispersion/src/tables.rt": chemical_arrays(chemical),
         "crates/blast/specs/Printed13.antt": printed_13(quantities, flammables),

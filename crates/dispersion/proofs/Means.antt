@@ -13,7 +13,7 @@ use Rattle.search.specs.Rising.{firstAtLeast}
 use Rattle.rules.specs.Printed.{Line}
 use Rattle.rules.specs.Rules.{fromColumn, larger, thousandths, closestColumn, lastOf, answered, byRow}
 use Rattle.rules.specs.Cuts.{cuts, climbs}
-use Rattle.rules.proofs.Arrays.{running}
+use Rattle.rules.specs.Carried.{running}
 use Rattle.rules.proofs.Means.{row-means}
 use Rattle.dense.specs.PrintedDense.{rates5, endpoints5}
 use Rattle.dense.specs.Grids.{denseTables}

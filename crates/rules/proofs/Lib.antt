@@ -1,2 +1,2 @@
-pub mod Arrays
+mod Scaled
 pub mod Means

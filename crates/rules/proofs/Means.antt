@@ -14,7 +14,7 @@ use Rattle.rules.specs.Printed.{Range}
 use Rattle.rules.specs.Rules.{distance, inUse, larger, thousandths, closestRow, lastOf, answered, byRow, holding, markOf, byRange}
 use Rattle.rules.specs.Cuts.{cuts, climbs, uppers, scaled}
 use Rattle.rules.specs.Laws.{row-by-cuts, holding-by-bounds, never-past}
-use Rattle.rules.proofs.Arrays.{running, in-use-at}
+use Rattle.rules.specs.Carried.{running, in-use-at}
 
 -- Tables 1 to 4: the bounds, and the entries in use with the open range's last
 pub range-means : (table : List Range) (bounds entries : List ℕ) → bounds ≡ uppers table

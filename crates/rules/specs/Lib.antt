@@ -3,3 +3,4 @@ pub mod Rules
 pub mod Cuts
 pub mod Closest
 pub mod Laws
+pub mod Carried

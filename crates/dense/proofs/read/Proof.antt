@@ -1,5 +1,5 @@
--- `dense::read` meets its contract: the place that the walk settles lies in the array, and the constants are what is
--- computed from the printed tables. Assumes nothing.
+-- `dense::read` meets its contract: the place that the walk settles lies in the table, and the cut points are what is computed
+-- from the printed tables. Assumes nothing.
 use Prim.Native.Nat.{ℕ, _≤_}
 use mathlib.Core.Path.{_≡_, refl, _∙_}
 use mathlib.Core.List.{List}
@@ -11,9 +11,7 @@ use Rattle.search.specs.Laws.{first-within}
 use Rattle.dense.specs.PrintedDense.{rates5, endpoints5}
 use Rattle.rules.specs.Rules.{larger, smaller, thousandths, lastOf}
 use Rattle.rules.specs.Cuts.{cuts, cutsFrom}
-use Rattle.rules.proofs.Arrays.{gridInUse, flat}
-use Rattle.dense.specs.Grids.{denseTables}
-use Rattle.dense.proofs.Means.{denseArray, dense-means}
+use Rattle.dense.proofs.Means.{dense-means}
 use Rattle.dense.proofs.read.Statement.{statement}
 use Rattle.dense.proofs.read.Tie as tie
 
@@ -35,29 +33,26 @@ sub-first c = search needs
 mul-first : tie.Need-mul-first
 mul-first c = search needs
 
+add-row-of : tie.Need-add-row-of
+add-row-of c = omega (arith, within _ _ _ (c .settle .ensures .0))
+
+row-of-requires : tie.Need-row-of-requires
+row-of-requires c κs = search needs
+
 mul-answer : tie.Need-mul-answer
-mul-answer c = omega (arith, within _ _ _ (c .settle .ensures .0), within _ _ _ (c .settle .ensures .1))
-
-add-answer : tie.Need-add-answer
-add-answer c = omega (arith, within _ _ _ (c .settle .ensures .0), within _ _ _ (c .settle .ensures .1))
-
-add-answer-2 : tie.Need-add-answer-2
-add-answer-2 c = omega (arith, within _ _ _ (c .settle .ensures .0), within _ _ _ (c .settle .ensures .1))
-
-mul-answer-2 : tie.Need-mul-answer-2
-mul-answer-2 c = omega (arith, within _ _ _ (c .settle .ensures .0), within _ _ _ (c .settle .ensures .1))
+mul-answer c = omega (arith, within _ _ _ (c .before .settle .ensures .1))
 
 array-read-answer : tie.Need-array-read-answer
-array-read-answer c = omega (arith, within _ _ _ (c .settle .ensures .0), within _ _ _ (c .settle .ensures .1))
+array-read-answer c = omega (arith, within _ _ _ (c .before .settle .ensures .1))
 
 answer-requires : tie.Need-answer-requires
 answer-requires c κs = search needs
 
 returns : tie.Need-returns
-unfolding denseArray denseTables gridInUse flat cuts cutsFrom thousandths lastOf larger smaller rates5 endpoints5
+unfolding cuts cutsFrom thousandths lastOf larger smaller rates5 endpoints5
 returns c =
     c .answer .ensures
-    ∙ dense-means _ _ _ _ refl refl refl refl _ _ _ _ _ (c .before .before .before .before .pre .0) (c .before .before .before .before .pre .1) (c .before .settle .ensures .0) (c .before .settle .ensures .1)
+    ∙ dense-means _ _ _ refl refl refl _ _ _ _ _ _ (c .before .before .before .before .before .pre .0) (c .before .before .before .before .before .pre .1) (c .before .before .settle .ensures .0) (c .before .before .settle .ensures .1) (c .before .row-of .ensures)
 
 pub read-spec : {M : Type 1} → statement M
 read-spec =
@@ -68,10 +63,9 @@ read-spec =
     settle-requires
     sub-first
     mul-first
+    add-row-of
+    row-of-requires
     mul-answer
-    add-answer
-    add-answer-2
-    mul-answer-2
     array-read-answer
     answer-requires
     returns)

@@ -6,7 +6,7 @@ use Rattle.dispersion.specs.PrintedChemical.{table9, table10}
 use Rattle.rules.specs.Rules.{distance, larger, thousandths, lastOf}
 use Rattle.dispersion.specs.Tables.{tables, readingOf}
 use Rattle.rules.specs.Cuts.{cuts, cutsFrom, climbs, climbsFrom}
-use Rattle.rules.proofs.Arrays.{running}
+use Rattle.rules.specs.Carried.{running}
 use Rattle.dispersion.proofs.Means.{lines-means}
 use Rattle.dispersion.proofs.ammonia.Statement.{statement}
 use Rattle.dispersion.proofs.ammonia.Tie as tie

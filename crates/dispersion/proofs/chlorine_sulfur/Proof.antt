@@ -7,7 +7,7 @@ use Rattle.rules.specs.Rules.{distance, larger, thousandths, lastOf}
 use Rattle.dispersion.specs.Tables.{tables, readingOf}
 use Rattle.dispersion.specs.Laws.{reading-none}
 use Rattle.rules.specs.Cuts.{cuts, cutsFrom, climbs, climbsFrom}
-use Rattle.rules.proofs.Arrays.{running}
+use Rattle.rules.specs.Carried.{running}
 use Rattle.dispersion.proofs.Means.{lines-means}
 use Rattle.dispersion.proofs.chlorine_sulfur.Statement.{statement}
 use Rattle.dispersion.proofs.chlorine_sulfur.Tie as tie

@@ -3,7 +3,7 @@ use mathlib.Core.Path.{refl, _∙_}
 use borrow.Author.Needs.{needs}
 use Rattle.rules.specs.Rules.{distance, markOf}
 use Rattle.rules.specs.Cuts.{uppers}
-use Rattle.rules.proofs.Arrays.{running}
+use Rattle.rules.specs.Carried.{running}
 use Rattle.rules.proofs.Means.{range-means}
 use Rattle.neutral.specs.PrintedNeutral.{table1}
 use Rattle.neutral.proofs.table_1.Statement.{statement}

@@ -7,7 +7,7 @@ use borrow.Author.Count.{below-none, below-more}
 use lib.ListN.{length, getD}
 use mathlib.Core.Logic.{⊎-elim}
 use Rattle.rules.specs.Rules.{answered}
-use Rattle.rules.proofs.Arrays.{scaled-place}
+use Rattle.rules.proofs.Scaled.{scaled-place}
 use Rattle.rules.proofs.by_range.Statement.{statement}
 use Rattle.rules.proofs.by_range.Tie as tie
 
