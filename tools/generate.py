@@ -505,11 +505,11 @@ def rt_file(sources, parts, uses=()):
     return "\n".join(lines) + "\n"
 
 
-def rt_array(comment, name, width, numbers):
+def rt_array(comment, name, width, numbers, a_line=12):
     expect(all(0 <= number < 2**width for number in numbers), name, f"a number does not fit {width} bits")
     lines = [f"// {comment}", f"pub const {name}: [u{width}; {len(numbers)}] = ["]
-    for start in range(0, len(numbers), 12):
-        lines.append("    " + ", ".join(map(str, numbers[start:start + 12])) + ",")
+    for start in range(0, len(numbers), a_line):
+        lines.append("    " + ", ".join(map(str, numbers[start:start + a_line])) + ",")
     return lines + ["];"]
 
 
@@ -656,14 +656,27 @@ def chemical_arrays(tables):
     return rt_file("data/table09.tsv to table12.tsv", arrays)
 
 
-def blast_arrays(quantities, flammables):
-    ordered = sorted(flammables, key=lambda x: x["cas"])
+def blast_tables(quantities, flammables):
     return rt_file("data/table13.tsv", [
-        rt_array("CAS numbers of the flammable substances, rising.", "CAS", 64, [x["cas"] for x in ordered]),
         rt_array("The quantities of Table 13 in pounds.", "QUANTITY", 64, quantities),
-        rt_array(f"Table 13 in hundredths of a mile, {QUANTITY_COUNT} a substance, in the order of CAS.", "DISTANCE", 16,
-                 flat(x["distances"] for x in ordered)),
-    ])
+        rt_array(f"Table 13 in hundredths of a mile, {QUANTITY_COUNT} a substance, in the printed order: no entry is above 2.55 miles.",
+                 "DISTANCE", 8, flat(x["distances"] for x in flammables), QUANTITY_COUNT),
+        rt_match(f"The place of a flammable substance in Table 13, by its CAS number; {FLAMMABLE_COUNT} for one that it does not list.",
+                 "place_of(cas: u32) -> usize", "r ≡ placeOf cas (map casOf table13)", "cas",
+                 [(x["name"], x["cas"], place) for place, x in enumerate(flammables)], FLAMMABLE_COUNT),
+    ], ["ghost use mathlib.Core.Path.{_≡_};", "ghost use mathlib.Core.List.{map};",
+        "ghost use Rattle.search.specs.Places.{placeOf};", "ghost use Rattle.blast.specs.Printed13.{table13};",
+        "ghost use Rattle.blast.specs.Blast.{casOf};"])
+
+
+def blast_proof(flammables):
+    return arms_proof(
+        "blast", "tables", "place_of",
+        ["use mathlib.Core.Path.{refl, sym}", "use mathlib.Core.List.{map}", "use Rattle.search.specs.Arms.{arm, missed}",
+         "use Rattle.search.specs.Places.{placeOf}", "use Rattle.search.specs.PlaceLaws.{place-none}",
+         "use Rattle.blast.specs.Printed13.{table13}", "use Rattle.blast.specs.Blast.{casOf}"],
+        "placeOf table13", "(λ n. placeOf n (map casOf table13)) _", [x["cas"] for x in flammables],
+        "sym (place-none _ (map casOf table13) (missed _ (map casOf table13) (c .match .rest)))")
 
 
 # ---- All together ----
@@ -690,7 +703,8 @@ def generated_files():
         "crates/dispersion/specs/PrintedChemical.antt": printed_chemical(chemical),
         "crates/dispersion/src/tables.rt": chemical_arrays(chemical),
         "crates/blast/specs/Printed13.antt": printed_13(quantities, flammables),
-        "crates/blast/src/tables.rt": blast_arrays(quantities, flammables),
+        "crates/blast/src/tables.rt": blast_tables(quantities, flammables),
+        "crates/blast/proofs/tables/place_of/Proof.antt": blast_proof(flammables),
     }
 
 

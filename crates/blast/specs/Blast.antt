@@ -7,7 +7,7 @@ use Rattle.units.specs.declared.Miles.{Miles}
 use Rattle.units.specs.declared.Reading.{Reading}
 use Rattle.units.specs.declared.Reading.the-variants.{Distance, Beyond}
 use Rattle.search.specs.Rising.{firstAtLeast}
-use Rattle.search.specs.Places.{among, lookUp, sorted}
+use Rattle.search.specs.Places.{among, lookUp}
 use Rattle.blast.specs.Printed.{FlammableLine, flammable}
 use Rattle.blast.specs.Printed13.{quantities, table13}
 
@@ -36,7 +36,3 @@ entryAt (d ∷ rest) (suc i) = entryAt rest i
 -- "Table 13 reads the smallest printed quantity that is at least the card's", and is left "above 2,000,000 lb"
 unfoldable pub blastReading : ℕ → ℕ → Reading
 blastReading cas pounds = entryAt (rowOf cas) (firstAtLeast pounds quantities)
-
--- the CAS numbers of Table 13 in rising order, as the code keeps them to search them
-unfoldable pub order : List ℕ
-order = sorted (map casOf table13)

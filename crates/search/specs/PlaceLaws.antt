@@ -1,38 +1,15 @@
 -- What callers use of looking a number up instead of its text. Each holds of any list.
 -- Assumes nothing.
-use Prim.Native.Nat.{ℕ, zero, suc, _≤_, _<_, zero-le, suc-le-suc}
-use native.Mathlib.Nat.{le-of-suc-le-suc, not-suc-le-zero}
+use Prim.Native.Nat.{ℕ, zero, suc, zero-le, suc-le-suc}
 use native.Mathlib.Omega.{arith}
 use mathlib.Core.Path.{_≡_, refl, ap, sym, _∙_}
 use mathlib.Core.List.{List, [], _∷_, _++_, map}
 use mathlib.Core.Bool.{Bool, true, false, not}
-use mathlib.Core.Logic.{⊎-elim}
-use lib.Dec.{leb, ltb, eqb, leb·suc-suc}
+use lib.Dec.{ltb, eqb, leb·suc-suc}
 use lib.ListN.{length, getD}
-use borrow.Author.Tests.{eq-eqb, ne-eqb, eqb-true, lt-ltb, not-true}
-use Rattle.search.specs.Rising.{firstAtLeast, rises}
-use Rattle.search.specs.Laws.{lt-or-ge, both-true, first-within, first-reaches, first-below, rising}
-use Rattle.search.specs.Places.{placeOf, either, among, every, lookUp, insert, sorted}
-
--- the one place with other entries before it, and itself x or the end
-pub place-unique : (xs : List ℕ) (x i : ℕ) → i ≤ length xs → ((k : ℕ) → k < i → x ≡ getD xs k 0 → ⊥) → (i < length xs → x ≡ getD xs i 0) → placeOf x xs ≡ i
-unfolding placeOf
-place-unique [] x zero h other here = refl
-place-unique [] x (suc i) h other here = absurd (not-suc-le-zero h)
-place-unique (a ∷ rest) x zero h other here = rw (eq-eqb x a (here (suc-le-suc zero-le)), placeOf)
-place-unique (a ∷ rest) x (suc i) h other here =
-    rw (ne-eqb x a (other 0 (suc-le-suc zero-le)), placeOf)
-    (ap suc (place-unique rest x i (le-of-suc-le-suc h) (λ k l. other (suc k) (suc-le-suc l)) (λ l. here (suc-le-suc l))))
-
--- where the place lies within the list, x stands there
-pub place-at : (x : ℕ) (xs : List ℕ) → placeOf x xs < length xs → getD xs (placeOf x xs) 0 ≡ x
-unfolding placeOf
-place-at x [] h = absurd (not-suc-le-zero h)
-place-at x (a ∷ rest) h = go (eqb x a) refl (place-at x rest) h
-  where
-    go : (t : Bool) → eqb x a ≡ t → (placeOf x rest < length rest → getD rest (placeOf x rest) 0 ≡ x) → (elim t as (λ _. ℕ) [ true ↦ 0 | false ↦ suc (placeOf x rest) ]) < suc (length rest) → getD (a ∷ rest) (elim t as (λ _. ℕ) [ true ↦ 0 | false ↦ suc (placeOf x rest) ]) 0 ≡ x
-    go true e ih l = sym (eqb-true x a e)
-    go false e ih l = ih (le-of-suc-le-suc l)
+use borrow.Author.Tests.{eqb-true, lt-ltb, not-true}
+use Rattle.search.specs.Laws.{both-true}
+use Rattle.search.specs.Places.{placeOf, either, among, every, lookUp}
 
 -- it lies within the list exactly where x is one of the entries
 pub place-among : (x : ℕ) (xs : List ℕ) → ltb (placeOf x xs) (length xs) ≡ among x xs
@@ -44,23 +21,15 @@ place-among x (a ∷ rest) = go (eqb x a) (place-among x rest)
     go true ih = lt-ltb 0 (suc (length rest)) (suc-le-suc zero-le)
     go false ih = leb·suc-suc (suc (placeOf x rest)) (length rest) ∙ ih
 
--- the search in a rising list ends at the place, or says that there is none
-pub place-hit : (x i : ℕ) (xs : List ℕ) → i ≡ firstAtLeast x xs → i < length xs → getD xs i 0 ≡ x → i ≡ placeOf x xs
-place-hit x i xs at h e =
-    sym (place-unique xs x i (omega arith) (λ k l p. omega (arith, first-below x xs k (omega arith))) (λ l. sym e))
-
-pub place-miss : (x i : ℕ) (xs : List ℕ) → rises xs ≡ true → i ≡ firstAtLeast x xs → (i < length xs → getD xs i 0 ≡ x → ⊥) → length xs ≡ placeOf x xs
-place-miss x i xs up at none = sym (place-unique xs x (length xs) (omega arith) nowhere (λ l. omega arith))
+-- and at its end where x is none of them
+pub place-none : (x : ℕ) (xs : List ℕ) → among x xs ≡ false → placeOf x xs ≡ length xs
+unfolding placeOf among
+place-none x [] e = refl
+place-none x (a ∷ rest) e = go (eqb x a) (place-none x rest) e
   where
-    nowhere : (k : ℕ) → k < length xs → x ≡ getD xs k 0 → ⊥
-    nowhere k l p =
-        ⊎-elim
-        (λ (before : k < firstAtLeast x xs). omega (arith, first-below x xs k before))
-        (λ (behind : firstAtLeast x xs ≤ k).
-        let h : firstAtLeast x xs < length xs = omega arith in
-        none (omega arith)
-        (ap (λ (n : ℕ). getD xs n 0) at ∙ omega (arith, first-reaches x xs h, rising xs up (firstAtLeast x xs) k behind l)))
-        (lt-or-ge k (firstAtLeast x xs))
+    go : (t : Bool) → (among x rest ≡ false → placeOf x rest ≡ length rest) → either t (among x rest) ≡ false → (elim t as (λ _. ℕ) [ true ↦ 0 | false ↦ suc (placeOf x rest) ]) ≡ suc (length rest)
+    go true ih q = let z : _≡_ {A = ℕ} 0 1 = cc in absurd (omega arith)
+    go false ih q = ap suc (ih q)
 
 -- x is in neither of two lists that together do not have it
 pub among-apart : (x : ℕ) (xs ys : List ℕ) → among x (xs ++ ys) ≡ false → (among x xs ≡ false) × (among x ys ≡ false)
@@ -71,28 +40,6 @@ among-apart x (a ∷ rest) ys e = go (eqb x a) (among-apart x rest ys) e
     go : (t : Bool) → (among x (rest ++ ys) ≡ false → (among x rest ≡ false) × (among x ys ≡ false)) → either t (among x (rest ++ ys)) ≡ false → (either t (among x rest) ≡ false) × (among x ys ≡ false)
     go true ih e = let z : _≡_ {A = ℕ} 0 1 = cc in absurd (omega arith)
     go false ih e = ih e
-
--- which of two tests is asked first does not matter
-either-swap : (s t u : Bool) → either s (either t u) ≡ either t (either s u)
-either-swap true true u = refl
-either-swap true false u = refl
-either-swap false true u = refl
-either-swap false false u = refl
-
-insert-among : (x a : ℕ) (xs : List ℕ) → among x (insert a xs) ≡ among x (a ∷ xs)
-unfolding insert among
-insert-among x a [] = refl
-insert-among x a (b ∷ rest) = go (leb a b) (insert-among x a rest)
-  where
-    go : (t : Bool) → among x (insert a rest) ≡ among x (a ∷ rest) → among x (elim t as (λ _. List ℕ) [ true ↦ a ∷ b ∷ rest | false ↦ b ∷ insert a rest ]) ≡ among x (a ∷ b ∷ rest)
-    go true ih = refl
-    go false ih = ap (either (eqb x b)) ih ∙ either-swap (eqb x b) (eqb x a) (among x rest)
-
--- the order changes nothing of which entries there are
-pub sorted-among : (x : ℕ) (xs : List ℕ) → among x (sorted xs) ≡ among x xs
-unfolding sorted among
-sorted-among x [] = refl
-sorted-among x (a ∷ rest) = insert-among x a (sorted rest) ∙ ap (either (eqb x a)) (sorted-among x rest)
 
 -- x is in the first of two lists and therefore not in the second, where no entry of the first is one of the second
 pub among-one : (x : ℕ) (xs ys : List ℕ) → every (λ a. not (among a ys)) xs ≡ true → among x xs ≡ true → among x ys ≡ false
@@ -108,6 +55,16 @@ among-one x (a ∷ rest) ys all e = go (eqb x a) refl (among-one x rest ys (halv
     go false p ih q = ih q
 
 module _ {A B : Type 0} (key : A → ℕ) (value : A → B) (x : ℕ) where
+  -- the value of the line that stands at the key's place
+  pub look-place : (lines : List A) (other : B) → getD (map value lines) (placeOf x (map key lines)) other ≡ lookUp key value x lines other
+  unfolding placeOf lookUp
+  look-place [] other = refl
+  look-place (a ∷ rest) other = go (eqb x (key a)) (look-place rest other)
+    where
+      go : (t : Bool) → getD (map value rest) (placeOf x (map key rest)) other ≡ lookUp key value x rest other → getD (value a ∷ map value rest) (elim t as (λ _. ℕ) [ true ↦ 0 | false ↦ suc (placeOf x (map key rest)) ]) other ≡ (elim t as (λ _. B) [ true ↦ value a | false ↦ lookUp key value x rest other ])
+      go true ih = refl
+      go false ih = ih
+
   -- no line has the key
   pub look-none : (lines : List A) (other : B) → among x (map key lines) ≡ false → lookUp key value x lines other ≡ other
   unfolding among lookUp

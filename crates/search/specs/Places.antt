@@ -1,10 +1,10 @@
--- A number looked up in a list: the place where it stands, whether it stands there at all, the line of a printed table that
--- has it, and the list in rising order.
+-- A number looked up in a list: the place where it stands, whether it stands there at all, and the line of a printed table
+-- that has it.
 -- Assumes nothing.
 use Prim.Native.Nat.{ℕ, zero, suc}
 use mathlib.Core.List.{List, [], _∷_}
 use mathlib.Core.Bool.{Bool, true, false}
-use lib.Dec.{leb, eqb}
+use lib.Dec.{eqb}
 use Rattle.search.specs.Rising.{both}
 
 -- the place, counted from 0, of the first entry that is x; the length where there is none
@@ -31,13 +31,3 @@ every ok (a ∷ rest) = both (ok a) (every ok rest)
 unfoldable pub lookUp : {A B : Type 0} → (A → ℕ) → (A → B) → ℕ → List A → B → B
 lookUp key value x [] other = other
 lookUp key value x (a ∷ rest) other = elim (eqb x (key a)) [ true ↦ value a | false ↦ lookUp key value x rest other ]
-
--- a put before the first entry that is at least a
-unfoldable pub insert : ℕ → List ℕ → List ℕ
-insert a [] = a ∷ []
-insert a (b ∷ rest) = elim (leb a b) [ true ↦ a ∷ b ∷ rest | false ↦ b ∷ insert a rest ]
-
--- the same entries in rising order
-unfoldable pub sorted : List ℕ → List ℕ
-sorted [] = []
-sorted (a ∷ rest) = insert a (sorted rest)
