@@ -47,11 +47,7 @@ survey-is (suc n) place last bytes l =
     go (answered.Is a) ih = ih a ∙ result-joined l a (cardsFrom n (suc place) (a .number) (drop 24 bytes))
     go (answered.Refused r) ih = refl
 
--- an accepted result comes from cards that are all answered
-accepted-cards : (c : Cards) {l : Leaders} → resultOf c ≡ outcome.Accepted l → (xs : List Answer) × (c ≡ answers xs)
-accepted-cards (answers xs) e = (xs, refl)
-accepted-cards (sent-back r place) e = let z : _≡_ {A = ℕ} 0 1 = cc in clash z
-
+-- where one answer more in front gives cards that are all answered, the cards behind it are
 pub joined-is : (a : Answer) (c : Cards) {xs : List Answer} → joined a c ≡ answers xs → (ys : List Answer) × (c ≡ answers ys) × (a ∷ ys ≡ xs)
 joined-is a (answers ys) e = (ys, refl, answers-is e)
   where
@@ -102,21 +98,15 @@ bytes-length (a ∷ xs) =
     let z : length (bytesOf xs) ≡ 16 * length xs = bytes-length xs in
     omega (arith, length-append (answerBytes a) (bytesOf xs), length-answer a)
 
--- both walks together: what the cards of a register answer and leave in the buffer
+-- what the cards of a register answer and leave in the lent buffer `out`, where the walk wrote into another one, `own`
 module _ (n : ℕ) (bytes out : List ℕ) where
   pub all-result : (x : Outcome) → x ≡ surveyFrom n 0 0 bytes noLeaders → x ≡ resultOf (cardsFrom n 0 0 bytes)
   all-result x e = e ∙ (survey-is n 0 0 bytes noLeaders ∙ result-is (cardsFrom n 0 0 bytes))
 
-  filled-answers : (c : Cards) → cardsFrom n 0 0 bytes ≡ c → {l : Leaders} → resultOf c ≡ outcome.Accepted l → 16 * n ≤ length out → fillFrom n 0 0 bytes out ≡ filledWith c out
-  filled-answers (answers xs) e q h =
-      let k : length xs ≡ n = cards-count n 0 0 bytes xs e in
-      fill-is n 0 0 bytes out xs e ∙ written-first (bytesOf xs) out (omega (arith, bytes-length xs))
-  filled-answers (sent-back r place) e q h = let z : _≡_ {A = ℕ} 0 1 = cc in clash z
+  pub all-case : (x w : Outcome) → x ≡ surveyFrom n 0 0 bytes noLeaders → x ≡ w → w ≡ resultOf (cardsFrom n 0 0 bytes)
+  all-case x w e q = sym q ∙ all-result x e
 
-  pub all-filled : (x : Outcome) (l : Leaders) (after : List ℕ) → x ≡ surveyFrom n 0 0 bytes noLeaders → x ≡ outcome.Accepted l → after ≡ fillFrom n 0 0 bytes out → 16 * n ≤ length out → after ≡ filledWith (cardsFrom n 0 0 bytes) out
-  all-filled x l after e q f h =
-      f ∙ filled-answers (cardsFrom n 0 0 bytes) refl (sym (all-result x e) ∙ q) h
-
+  -- a refused register leaves it as it was
   kept-refused : (c : Cards) {r : Refusal} {place : ℕ} → resultOf c ≡ outcome.Refused r place → out ≡ filledWith c out
   kept-refused (answers xs) e = let z : _≡_ {A = ℕ} 0 1 = cc in clash z
   kept-refused (sent-back r place) e = refl
@@ -124,25 +114,22 @@ module _ (n : ℕ) (bytes out : List ℕ) where
   pub all-kept : (x : Outcome) (r : Refusal) (place : ℕ) → x ≡ surveyFrom n 0 0 bytes noLeaders → x ≡ outcome.Refused r place → out ≡ filledWith (cardsFrom n 0 0 bytes) out
   all-kept x r place e q = kept-refused (cardsFrom n 0 0 bytes) (sym (all-result x e) ∙ q)
 
-  pub all-case : (x w : Outcome) → x ≡ surveyFrom n 0 0 bytes noLeaders → x ≡ w → w ≡ resultOf (cardsFrom n 0 0 bytes)
-  all-case x w e q = sym q ∙ all-result x e
+  -- an accepted one has what `own` holds of the answers copied over its front
+  copied-answers : (own : List ℕ) (c : Cards) → cardsFrom n 0 0 bytes ≡ c → {l : Leaders} → resultOf c ≡ outcome.Accepted l → 16 * n ≤ length own → 16 * n ≤ length out → sets out 0 (take (16 * n) (fillFrom n 0 0 bytes own)) ≡ filledWith c out
+  copied-answers own (answers xs) e q h k =
+      let m : length (bytesOf xs) ≡ 16 * n = bytes-length xs ∙ ap (λ i. 16 * i) (cards-count n 0 0 bytes xs e) in
+      let f : fillFrom n 0 0 bytes own ≡ bytesOf xs ++ drop (length (bytesOf xs)) own =
+      fill-is n 0 0 bytes own xs e ∙ written-first (bytesOf xs) own (omega arith) in
+      ap (λ (b : List ℕ). sets out 0 (take (16 * n) b)) f
+      ∙ (ap (λ (b : List ℕ). sets out 0 b) (take-at (bytesOf xs) (drop (length (bytesOf xs)) own) (16 * n) m)
+      ∙ written-first (bytesOf xs) out (omega arith))
+  copied-answers own (sent-back r place) e q h k = let z : _≡_ {A = ℕ} 0 1 = cc in clash z
 
--- the same by way of a buffer of one's own: what it holds of the answers, copied over the front of the lent one
-copied-answers : (n : ℕ) (bytes out own : List ℕ) (c : Cards) → cardsFrom n 0 0 bytes ≡ c → {l : Leaders} → resultOf c ≡ outcome.Accepted l → 16 * n ≤ length own → 16 * n ≤ length out → sets out 0 (take (16 * n) (fillFrom n 0 0 bytes own)) ≡ filledWith c out
-copied-answers n bytes out own (answers xs) e q h k =
-    let m : length (bytesOf xs) ≡ 16 * n = bytes-length xs ∙ ap (λ i. 16 * i) (cards-count n 0 0 bytes xs e) in
-    let f : fillFrom n 0 0 bytes own ≡ bytesOf xs ++ drop (length (bytesOf xs)) own =
-    fill-is n 0 0 bytes own xs e ∙ written-first (bytesOf xs) own (omega arith) in
-    ap (λ (b : List ℕ). sets out 0 (take (16 * n) b)) f
-    ∙ (ap (λ (b : List ℕ). sets out 0 b) (take-at (bytesOf xs) (drop (length (bytesOf xs)) own) (16 * n) m)
-    ∙ written-first (bytesOf xs) out (omega arith))
-copied-answers n bytes out own (sent-back r place) e q h k = let z : _≡_ {A = ℕ} 0 1 = cc in clash z
-
-pub all-copied : (n : ℕ) (bytes out own held : List ℕ) (x : Outcome) (l : Leaders) (next : ℕ) (after : List ℕ) → x ≡ surveyFrom n 0 0 bytes noLeaders → x ≡ outcome.Accepted l → held ≡ fillFrom n 0 0 bytes own → Wrote out after 0 next (take (16 * n) held) → 16 * n ≤ length own → 16 * n ≤ length out → after ≡ filledWith (cardsFrom n 0 0 bytes) out
-all-copied n bytes out own held x l next after e q f w h k =
-    w .bytes
-    ∙ (ap (λ (b : List ℕ). sets out 0 (take (16 * n) b)) f
-    ∙ copied-answers n bytes out own (cardsFrom n 0 0 bytes) refl (sym (all-result n bytes out x e) ∙ q) h k)
+  pub all-copied : (own held : List ℕ) (x : Outcome) (l : Leaders) (next : ℕ) (after : List ℕ) → x ≡ surveyFrom n 0 0 bytes noLeaders → x ≡ outcome.Accepted l → held ≡ fillFrom n 0 0 bytes own → Wrote out after 0 next (take (16 * n) held) → 16 * n ≤ length own → 16 * n ≤ length out → after ≡ filledWith (cardsFrom n 0 0 bytes) out
+  all-copied own held x l next after e q f w h k =
+      w .bytes
+      ∙ (ap (λ (b : List ℕ). sets out 0 (take (16 * n) b)) f
+      ∙ copied-answers own (cardsFrom n 0 0 bytes) refl (sym (all-result x e) ∙ q) h k)
 
 -- what stands behind the header, as the code takes it
 pub behind-header : (bytes : List ℕ) → take (length bytes - 7) (drop 7 bytes) ≡ drop 7 bytes

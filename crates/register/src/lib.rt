@@ -6,31 +6,14 @@ ghost use Prim.Native.Nat.{_*_, _≤_};
 ghost use lib.ListN.{length};
 ghost use Rattle.register.specs.Register.{cardsFrom, resultOf, filledWith, outcomeOf, bufferOf};
 
-// A short register is walked twice: first to check every card, then to write.
-fn answer_short(cards: &[u8], count: usize, answers: &mut [u8]) -> Outcome
-    requires { ⌜ (count ≤ 2000) × (24 * count ≤ length (now cards)) × (16 * count ≤ length (now answers)) ⌝ }
+// The cards are walked once, into a buffer that nobody but the two callers below sees, and what it holds is copied where no card
+// was refused: so every card is checked before a byte of the lent buffer is written.
+fn answer_through(cards: &[u8], count: usize, scratch: &mut [u8], answers: &mut [u8]) -> Outcome
+    requires { ⌜ (count ≤ 2000) × (24 * count ≤ length (now cards)) × (16 * count ≤ length (now scratch)) × (16 * count ≤ length (now answers)) ⌝ }
     ensures { λ r. ⌜ r ≡ resultOf (cardsFrom count 0 0 (now (cards .entry))) ⌝ }
     ensures { λ r. ⌜ now (answers .exit) ≡ filledWith (cardsFrom count 0 0 (now (cards .entry))) (now (answers .entry)) ⌝ }
 {
-    let outcome = walk::survey(cards, count);
-    match outcome {
-        Outcome::Accepted(leaders) => {
-            walk::survey_and_fill(cards, count, answers);
-            Outcome::Accepted(leaders)
-        }
-        Outcome::Refused(refusal, place) => Outcome::Refused(refusal, place),
-    }
-}
-
-// A long one is walked once, into a buffer that nobody else sees, which is copied where no card was refused. To clear that
-// buffer costs about as much as four cards.
-fn answer_long(cards: &[u8], count: usize, answers: &mut [u8]) -> Outcome
-    requires { ⌜ (count ≤ 2000) × (24 * count ≤ length (now cards)) × (16 * count ≤ length (now answers)) ⌝ }
-    ensures { λ r. ⌜ r ≡ resultOf (cardsFrom count 0 0 (now (cards .entry))) ⌝ }
-    ensures { λ r. ⌜ now (answers .exit) ≡ filledWith (cardsFrom count 0 0 (now (cards .entry))) (now (answers .entry)) ⌝ }
-{
-    let mut scratch = [0u8; 32000];
-    let outcome = walk::survey_and_fill(cards, count, &mut scratch);
+    let outcome = walk::survey_and_fill(cards, count, scratch);
     let end = 16 * count;
     match outcome {
         Outcome::Accepted(leaders) => {
@@ -41,13 +24,32 @@ fn answer_long(cards: &[u8], count: usize, answers: &mut [u8]) -> Outcome
     }
 }
 
-// Every card is checked before a byte is written.
+// A short register has a short buffer: to clear the long one costs about as much as four cards.
+fn answer_short(cards: &[u8], count: usize, answers: &mut [u8]) -> Outcome
+    requires { ⌜ (count ≤ 64) × (24 * count ≤ length (now cards)) × (16 * count ≤ length (now answers)) ⌝ }
+    ensures { λ r. ⌜ r ≡ resultOf (cardsFrom count 0 0 (now (cards .entry))) ⌝ }
+    ensures { λ r. ⌜ now (answers .exit) ≡ filledWith (cardsFrom count 0 0 (now (cards .entry))) (now (answers .entry)) ⌝ }
+{
+    let mut scratch = [0u8; 1024];
+    answer_through(cards, count, &mut scratch, answers)
+}
+
+// The long buffer has room for the answers of as many cards as a register may have.
+fn answer_long(cards: &[u8], count: usize, answers: &mut [u8]) -> Outcome
+    requires { ⌜ (count ≤ 2000) × (24 * count ≤ length (now cards)) × (16 * count ≤ length (now answers)) ⌝ }
+    ensures { λ r. ⌜ r ≡ resultOf (cardsFrom count 0 0 (now (cards .entry))) ⌝ }
+    ensures { λ r. ⌜ now (answers .exit) ≡ filledWith (cardsFrom count 0 0 (now (cards .entry))) (now (answers .entry)) ⌝ }
+{
+    let mut scratch = [0u8; 32000];
+    answer_through(cards, count, &mut scratch, answers)
+}
+
 fn answer_all(cards: &[u8], count: usize, answers: &mut [u8]) -> Outcome
     requires { ⌜ (count ≤ 2000) × (24 * count ≤ length (now cards)) × (16 * count ≤ length (now answers)) ⌝ }
     ensures { λ r. ⌜ r ≡ resultOf (cardsFrom count 0 0 (now (cards .entry))) ⌝ }
     ensures { λ r. ⌜ now (answers .exit) ≡ filledWith (cardsFrom count 0 0 (now (cards .entry))) (now (answers .entry)) ⌝ }
 {
-    if count <= 4 {
+    if count <= 64 {
         answer_short(cards, count, answers)
     } else {
         answer_long(cards, count, answers)

@@ -1,13 +1,11 @@
--- `register::answer_long` meets its contract: what its own buffer holds is copied only where the walk accepted every card.
+-- `register::answer_through` meets its contract: what the buffer of its own holds is copied only where the walk accepted every
+-- card.
 -- Assumes nothing.
-use Rattle.register.specs.Laws.{all-case, all-kept}
-use Rattle.register.proofs.Scratch.{scratch-part, scratch-fits, scratch-copied}
+use Rattle.register.specs.Laws.{all-case, all-copied, all-kept}
+use Rattle.register.proofs.Scratch.{scratch-part, scratch-fits}
 use borrow.Author.Needs.{needs}
-use Rattle.register.proofs.answer_long.Statement.{statement}
-use Rattle.register.proofs.answer_long.Tie as tie
-
-slice-aggregate-survey-and-fill : tie.Need-slice-aggregate-survey-and-fill
-slice-aggregate-survey-and-fill c = search needs
+use Rattle.register.proofs.answer_through.Statement.{statement}
+use Rattle.register.proofs.answer_through.Tie as tie
 
 survey-and-fill-requires : tie.Need-survey-and-fill-requires
 survey-and-fill-requires c κs = search needs
@@ -18,8 +16,8 @@ mul-end c = search needs
 enum-known-outcome : tie.Need-enum-known-outcome
 enum-known-outcome c = search needs
 
-array-share-prefix-scratch : tie.Need-array-share-prefix-scratch
-array-share-prefix-scratch c = search needs
+slice-reshare-prefix-put-text : tie.Need-slice-reshare-prefix-put-text
+slice-reshare-prefix-put-text c = search needs
 
 slice-aggregate-put-text : tie.Need-slice-aggregate-put-text
 slice-aggregate-put-text c = search (scratch-part, needs)
@@ -33,24 +31,31 @@ enum-known-outcome-2 c = search needs
 same-length : tie.Need-same-length
 same-length c = search needs
 
+same-length-2 : tie.Need-same-length-2
+same-length-2 c = search needs
+
 returns : tie.Need-returns
-returns c = search (all-case, scratch-copied, needs)
+returns c = search (all-case, all-copied, needs)
+
+same-length-3 : tie.Need-same-length-3
+same-length-3 c = search needs
 
 returns-2 : tie.Need-returns-2
 returns-2 c = search (all-case, all-kept, needs)
 
-pub answer-long-spec : {M : Type 1} → statement M
-answer-long-spec =
+pub answer-through-spec : {M : Type 1} → statement M
+answer-through-spec =
     tie.close
     (tie.spec
-    slice-aggregate-survey-and-fill
     survey-and-fill-requires
     mul-end
     enum-known-outcome
-    array-share-prefix-scratch
+    slice-reshare-prefix-put-text
     slice-aggregate-put-text
     put-text-requires
     enum-known-outcome-2
     same-length
+    same-length-2
     returns
+    same-length-3
     returns-2)
