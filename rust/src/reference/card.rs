@@ -147,11 +147,9 @@ fn form(fields: &Fields) -> Result<(State, Ground, Containment), Fault> {
         (4, tenths) => State::Liquid(tenths),
         _ => return Err(Fault::Form),
     };
-    let ground = match fields.ground {
-        1 => Ground::Rural,
-        2 => Ground::Urban,
-        _ => return Err(Fault::Form),
-    };
+    // Checked first and read then, so that a sound card needs no jump here: its ground can't be foreseen by a processor.
+    demand(matches!(fields.ground, 1 | 2), Fault::Form)?;
+    let ground = if fields.ground == 1 { Ground::Rural } else { Ground::Urban };
     let containment = match (fields.containment, fields.area, fields.wall) {
         (0, 0, 0) => Containment::Open,
         (1, area, wall) => Containment::Dike(Dike { area: SquareFeet::from_whole(area), wall: Wall(u64::from(wall)) }),

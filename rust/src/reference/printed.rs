@@ -4,6 +4,7 @@
 
 use super::card::Ground;
 use super::units::{Miles, Pounds, PoundsPerMinute};
+use std::collections::HashSet;
 use std::sync::LazyLock;
 
 /// The number of the table for blasts.
@@ -34,10 +35,13 @@ pub struct Printed {
     specific: [RateTable; 4],
 }
 
-/// Substances in the order of their CAS numbers, which stand apart so that a search touches little memory.
+/// Substances in the order of their CAS numbers, each found at one look by what its number leaves over in a division.
 struct Listed<S> {
-    cas: Vec<u32>,
     substances: Vec<S>,
+    /// The least number by which no two CAS numbers leave the same remainder.
+    divisor: u32,
+    /// For each remainder the CAS number that leaves it, with its substance's place.
+    slots: Vec<Option<(u32, usize)>>,
 }
 
 /// A row of Exhibit B-1 or B-2.
@@ -373,13 +377,24 @@ impl<S> Listed<S> {
         substances.sort_by_key(&cas_of);
         let cas: Vec<u32> = substances.iter().map(cas_of).collect();
         assert!(cas.is_sorted_by(|a, b| a < b), "a CAS number is listed twice");
-        Listed { cas, substances }
+        let divisor = (1..).find(|&divisor| tells_apart(divisor, &cas)).expect("one above all of them does");
+        let mut slots = vec![None; divisor as usize];
+        for (place, &cas) in cas.iter().enumerate() {
+            slots[(cas % divisor) as usize] = Some((cas, place));
+        }
+        Listed { substances, divisor, slots }
     }
 
     fn find(&self, cas: u32) -> Option<&S> {
-        let place = self.cas.binary_search(&cas).ok()?;
-        self.substances.get(place)
+        let (listed, place) = self.slots[(cas % self.divisor) as usize]?;
+        (listed == cas).then(|| &self.substances[place])
     }
+}
+
+/// True if no two of the CAS numbers leave the same remainder.
+fn tells_apart(divisor: u32, cas: &[u32]) -> bool {
+    let remainders: HashSet<u32> = cas.iter().map(|cas| cas % divisor).collect();
+    remainders.len() == cas.len()
 }
 
 fn read_toxics(endpoints: &[u64]) -> Listed<Toxic> {
