@@ -1,83 +1,99 @@
-//! The proved library and the reference on the same registers, in the same process.
+//! The proved library and the reference, timed on the same registers in the same process.
 //!
-//! `cargo bench` prints two tables in markdown. Nothing is asserted: times are for reading.
+//! `cargo bench` prints one table in markdown, a line for each size of register. Measured is the whole call, from the
+//! bytes of a register to the bytes of its answers, on many different registers: a benchmark that repeats one
+//! register lets the processor learn its branches by heart. (Of those with one card, three in four differ.) A pass
+//! answers every register of a size once, in their order, and is timed as a whole; told is the median pass. The two
+//! implementations pass in turn, so that a slow spell of the machine meets both.
+//!
+//! The registers are made beforehand and all are accepted. They lie end to end, 5 to 10 MB of them, so a pass fetches
+//! each from the last cache or from memory. That is the same for both and small beside the work: touching the cards
+//! takes half a nanosecond a card at 2,000 cards, and not two at one. One buffer is lent for all answers of a size and
+//! not cleared between calls.
 
-use rings_second::reference::{ANSWER_LEN, MAX_CARDS};
+use rings_second::reference::{ANSWER_LEN, CARD_LEN, HEADER_LEN};
 use rings_second::samples::{accepted_register, Rng};
 use rings_second::{proved, reference};
 use std::hint::black_box;
-use std::time::{Duration, Instant};
+use std::time::Instant;
 
 const SEED: u64 = 13;
-const REGISTERS: usize = 8;
-const REPETITIONS: usize = 201;
-/// A timed stretch runs at least so many cards, or the clock's own time would show in it.
-const CARDS_A_STRETCH: usize = MAX_CARDS;
+/// Cards in each register of a pass.
+const SIZES: [usize; 5] = [1, 10, 100, 1_000, 2_000];
+/// A pass has at least so many registers.
+const LEAST_REGISTERS: usize = 200;
+/// A pass has at least so many cards, or the branches of short registers would be learned after all.
+const LEAST_CARDS: usize = 200_000;
+/// Passes of each implementation over the registers of a size; odd, so that one of them is the median.
+const PASSES: usize = 41;
 
 /// Answers a register into a buffer; true if it was accepted.
 type Answer = fn(&[u8], &mut [u8]) -> bool;
 
 fn main() {
     let mut rng = Rng::new(SEED);
-    registers_of_2000_cards(&mut rng);
-    growth(&mut rng);
-}
-
-fn registers_of_2000_cards(rng: &mut Rng) {
-    println!("Registers of {MAX_CARDS} cards, median of {REPETITIONS} calls:\n");
-    println!("| register | proved, ns a card | reference, ns a card | proved / reference |");
-    println!("|---|---|---|---|");
-    let mut sums = (0.0, 0.0);
-    for place in 1..=REGISTERS {
-        let register = accepted_register(rng, MAX_CARDS);
-        let (ours, theirs) = measure(&register, MAX_CARDS);
-        let (proved, reference) = (ours / MAX_CARDS as f64, theirs / MAX_CARDS as f64);
-        println!("| {place} | {proved:.1} | {reference:.1} | {:.2} |", proved / reference);
-        sums = (sums.0 + proved, sums.1 + reference);
-    }
-    let (proved, reference) = (sums.0 / REGISTERS as f64, sums.1 / REGISTERS as f64);
-    println!("| mean | {proved:.1} | {reference:.1} | {:.2} |\n", proved / reference);
-}
-
-fn growth(rng: &mut Rng) {
-    println!("Growth with the number of cards, median of {REPETITIONS} stretches:\n");
-    println!("| cards | proved, ns a register | a card | reference, ns a register | a card | proved / reference |");
-    println!("|---|---|---|---|---|---|");
-    for cards in [1, 10, 100, 1_000, 2_000] {
-        let register = accepted_register(rng, cards);
-        let (proved, reference) = measure(&register, cards);
-        let a_card = |ns: f64| ns / cards as f64;
+    println!("Median of {PASSES} passes over all registers of a size, ns:\n");
+    println!(
+        "| cards | registers | proved, a register | a card | reference, a register | a card | proved / reference |"
+    );
+    println!("|---|---|---|---|---|---|---|");
+    for cards in SIZES {
+        let registers = Registers::make(&mut rng, cards);
+        let (proved, reference) = measure(&registers);
         println!(
-            "| {cards} | {proved:.0} | {:.1} | {reference:.0} | {:.1} | {:.2} |",
-            a_card(proved),
-            a_card(reference),
+            "| {cards} | {} | {proved:.0} | {:.1} | {reference:.0} | {:.1} | {:.2} |",
+            registers.count(),
+            proved / cards as f64,
+            reference / cards as f64,
             proved / reference,
         );
     }
 }
 
-/// The median nanoseconds a call of the proved library and of the reference, called in turn so that a slow spell of
-/// the machine meets both.
-fn measure(register: &[u8], cards: usize) -> (f64, f64) {
-    let calls = CARDS_A_STRETCH.div_ceil(cards);
-    let mut buffer = vec![0; ANSWER_LEN * cards];
-    let mut stretch = |answer: Answer| {
-        let start = Instant::now();
-        for _ in 0..calls {
-            let accepted = answer(black_box(register), black_box(&mut buffer));
-            assert!(black_box(accepted), "all registers of a benchmark are accepted");
-        }
-        nanoseconds(start.elapsed()) / calls as f64
-    };
+/// Registers of the same number of cards.
+struct Registers {
+    cards: usize,
+    /// One register behind the other, so that no pointers are followed between them.
+    bytes: Vec<u8>,
+}
+
+impl Registers {
+    fn make(rng: &mut Rng, cards: usize) -> Self {
+        let count = LEAST_REGISTERS.max(LEAST_CARDS.div_ceil(cards));
+        Registers { cards, bytes: (0..count).flat_map(|_| accepted_register(rng, cards)).collect() }
+    }
+
+    fn each(&self) -> impl ExactSizeIterator<Item = &[u8]> {
+        self.bytes.chunks_exact(HEADER_LEN + self.cards * CARD_LEN)
+    }
+
+    fn count(&self) -> usize {
+        self.each().len()
+    }
+}
+
+/// The nanoseconds that a register takes in the median pass of the proved library and of the reference.
+fn measure(registers: &Registers) -> (f64, f64) {
     let proved: Answer = |register, out| proved::answer(register, out).is_ok();
     let reference: Answer = |register, out| reference::answer(register, out).is_ok();
-    let times = (0..REPETITIONS).map(|_| (stretch(proved), stretch(reference)));
-    let (proved, reference): (Vec<f64>, Vec<f64>) = times.unzip();
+    let mut buffer = vec![0; ANSWER_LEN * registers.cards];
+    let mut a_register = |answer| pass(registers, &mut buffer, answer) / registers.count() as f64;
+    // A first pass of each warms the machine up and is not counted.
+    a_register(proved);
+    a_register(reference);
+    let times = (0..PASSES).map(|_| (a_register(proved), a_register(reference)));
+    let (proved, reference) = times.unzip();
     (median(proved), median(reference))
 }
 
-fn nanoseconds(time: Duration) -> f64 {
-    time.as_nanos() as f64
+/// The nanoseconds of one call for each register.
+fn pass(registers: &Registers, buffer: &mut [u8], answer: Answer) -> f64 {
+    let start = Instant::now();
+    for register in registers.each() {
+        let accepted = answer(black_box(register), black_box(buffer));
+        assert!(accepted, "all registers of a benchmark are accepted");
+    }
+    start.elapsed().as_nanos() as f64
 }
 
 fn median(mut times: Vec<f64>) -> f64 {
