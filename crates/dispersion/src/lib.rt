@@ -3,11 +3,10 @@
 mod tables;
 
 ghost use mathlib.Core.Path.{_≡_};
-ghost use mathlib.Core.Bool.{true};
 ghost use Prim.Native.Nat.{ℕ, _+_, _<_, _≤_};
 ghost use lib.Dec.{ltb};
 ghost use lib.ListN.{length, getD};
-ghost use Rattle.search.specs.Rising.{firstAtLeast, rises};
+ghost use Rattle.search.specs.Rising.{firstAtLeast};
 ghost use Rattle.rules.specs.Rules.{answered};
 ghost use Rattle.dispersion.specs.Tables.{columnOf, readingOf};
 ghost use Rattle.dispersion.specs.declared.Ground.{Ground};
@@ -53,7 +52,7 @@ fn by_row(
     ground: Ground,
     rate: u64,
 ) -> Reading
-    requires { ⌜ (rises (now cuts) ≡ true) × (length (now rural) ≡ length (now cuts) + 1) × (length (now urban) ≡ length (now cuts) + 1) ⌝ }
+    requires { ⌜ (length (now rural) ≡ length (now cuts) + 1) × (length (now urban) ≡ length (now cuts) + 1) ⌝ }
     ensures { λ r. ⌜ r ≡ answered (ltb last rate) (getD (columnOf ground (now (rural .entry)) (now (urban .entry))) (firstAtLeast rate (now (cuts .entry))) 0) ⌝ }
 {
     let row = search::first_at_least(cuts, rate);
