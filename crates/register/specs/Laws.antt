@@ -98,6 +98,17 @@ bytes-length (a ∷ xs) =
     let z : length (bytesOf xs) ≡ 16 * length xs = bytes-length xs in
     omega (arith, length-append (answerBytes a) (bytesOf xs), length-answer a)
 
+-- the walk over one card that is sent back writes nothing
+only-refused : (n : ℕ) (bytes out : List ℕ) (r : Refusal) (place : ℕ) → n ≤ 1 → cardsFrom n 0 0 bytes ≡ sent-back r place → fillFrom n 0 0 bytes out ≡ out
+unfolding fillFrom cardsFrom
+only-refused zero bytes out r place h e = refl
+only-refused (suc zero) bytes out r place h e = go (answerOf (take 24 bytes) 0) e
+  where
+    go : (x : Answered) → then x 0 (λ k. cardsFrom 0 1 k (drop 24 bytes)) ≡ sent-back r place → filled x out (λ (a : Answer). fillFrom 0 1 (a .number) (drop 24 bytes) (sets out 0 (answerBytes a))) ≡ out
+    go (answered.Is a) q = let z : _≡_ {A = ℕ} 0 1 = cc in clash z
+    go (answered.Refused s) q = refl
+only-refused (suc (suc n)) bytes out r place h e = absurd (omega arith)
+
 -- what the cards of a register answer and leave in the lent buffer `out`, where the walk wrote into another one, `own`
 module _ (n : ℕ) (bytes out : List ℕ) where
   pub all-result : (x : Outcome) → x ≡ surveyFrom n 0 0 bytes noLeaders → x ≡ resultOf (cardsFrom n 0 0 bytes)
@@ -130,6 +141,16 @@ module _ (n : ℕ) (bytes out : List ℕ) where
       w .bytes
       ∙ (ap (λ (b : List ℕ). sets out 0 (take (16 * n) b)) f
       ∙ copied-answers own (cardsFrom n 0 0 bytes) refl (sym (all-result x e) ∙ q) h k)
+
+  -- one card is refused before a byte is written, so the walk may write into the lent buffer itself
+  one-filled : (c : Cards) → cardsFrom n 0 0 bytes ≡ c → n ≤ 1 → 16 * n ≤ length out → fillFrom n 0 0 bytes out ≡ filledWith c out
+  one-filled (answers xs) e few h =
+      fill-is n 0 0 bytes out xs e
+      ∙ written-first (bytesOf xs) out (omega (arith, bytes-length xs, cards-count n 0 0 bytes xs e))
+  one-filled (sent-back r place) e few h = only-refused n bytes out r place few e
+
+  pub one-written : (after : List ℕ) → after ≡ fillFrom n 0 0 bytes out → n ≤ 1 → 16 * n ≤ length out → after ≡ filledWith (cardsFrom n 0 0 bytes) out
+  one-written after f few h = f ∙ one-filled (cardsFrom n 0 0 bytes) refl few h
 
 -- what stands behind the header, as the code takes it
 pub behind-header : (bytes : List ℕ) → take (length bytes - 7) (drop 7 bytes) ≡ drop 7 bytes

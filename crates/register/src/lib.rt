@@ -24,6 +24,15 @@ fn answer_through(cards: &[u8], count: usize, scratch: &mut [u8], answers: &mut 
     }
 }
 
+// One card needs no such buffer: the walk refuses it before it writes a byte.
+fn answer_one(cards: &[u8], count: usize, answers: &mut [u8]) -> Outcome
+    requires { ⌜ (count ≤ 1) × (24 * count ≤ length (now cards)) × (16 * count ≤ length (now answers)) ⌝ }
+    ensures { λ r. ⌜ r ≡ resultOf (cardsFrom count 0 0 (now (cards .entry))) ⌝ }
+    ensures { λ r. ⌜ now (answers .exit) ≡ filledWith (cardsFrom count 0 0 (now (cards .entry))) (now (answers .entry)) ⌝ }
+{
+    walk::survey_and_fill(cards, count, answers)
+}
+
 // A short register has a short buffer: to clear the long one costs about as much as four cards.
 fn answer_short(cards: &[u8], count: usize, answers: &mut [u8]) -> Outcome
     requires { ⌜ (count ≤ 64) × (24 * count ≤ length (now cards)) × (16 * count ≤ length (now answers)) ⌝ }
@@ -49,11 +58,13 @@ fn answer_all(cards: &[u8], count: usize, answers: &mut [u8]) -> Outcome
     ensures { λ r. ⌜ r ≡ resultOf (cardsFrom count 0 0 (now (cards .entry))) ⌝ }
     ensures { λ r. ⌜ now (answers .exit) ≡ filledWith (cardsFrom count 0 0 (now (cards .entry))) (now (answers .entry)) ⌝ }
 {
-    if count <= 64 {
-        answer_short(cards, count, answers)
-    } else {
-        answer_long(cards, count, answers)
+    if count <= 1 {
+        return answer_one(cards, count, answers);
     }
+    if count <= 64 {
+        return answer_short(cards, count, answers);
+    }
+    answer_long(cards, count, answers)
 }
 
 // The call that everyone uses: a register and a lent answer buffer. Every card is checked before a byte is written.
