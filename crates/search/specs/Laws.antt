@@ -1,5 +1,5 @@
--- What callers use of the search instead of its text: where it ends, what stands before and at its answer, and that a
--- larger number is never found earlier. Each holds of any list.
+-- What callers use of the search instead of its text: where it ends, what stands at its answer, and that a larger number is
+-- never found earlier. Each holds of any list.
 -- Assumes nothing.
 use Prim.Native.Nat.{ℕ, zero, suc, _≤_, _<_, zero-le, suc-le-suc}
 use native.Mathlib.Nat.{le-trans, le-of-suc-le-suc, not-suc-le-zero}
@@ -59,19 +59,6 @@ first-reaches x (a ∷ rest) h =
     ⊎-elim
     (λ (l : a < x). rw (first-on x a rest l) (ih (le-of-suc-le-suc (rw (first-on x a rest l) at h))))
     (λ (l : x ≤ a). rw (first-here x a rest l) l)
-    (lt-or-ge a x)
-
--- every entry before it is smaller than x
-pub first-below : (x : ℕ) (xs : List ℕ) (k : ℕ) → k < firstAtLeast x xs → getD xs k 0 < x
-unfolding firstAtLeast
-first-below x [] k h = absurd (not-suc-le-zero h)
-first-below x (a ∷ rest) zero h =
-    ⊎-elim (λ (l : a < x). l) (λ (l : x ≤ a). absurd (not-suc-le-zero (rw (first-here x a rest l) at h))) (lt-or-ge a x)
-first-below x (a ∷ rest) (suc k) h =
-    let ih : k < firstAtLeast x rest → getD rest k 0 < x = first-below x rest k in
-    ⊎-elim
-    (λ (l : a < x). ih (le-of-suc-le-suc (rw (first-on x a rest l) at h)))
-    (λ (l : x ≤ a). absurd (not-suc-le-zero (rw (first-here x a rest l) at h)))
     (lt-or-ge a x)
 
 -- a larger number is never found earlier
