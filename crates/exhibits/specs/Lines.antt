@@ -79,17 +79,39 @@ cellFrom n = pickCell (eqb n 65534) Lfb (pickCell (eqb n 65535) NoData (Factor n
 
 -- the line of a substance
 abbrev pub lineOf : Toxic → Line
-lineOf t =
-    record { kind = kindOf t; lfa = lfaOf t; lfb = lfbOf t; df = dfOf t; endpoint = endpointOf t; dense = denseOf (plumeOf t); at30 = codeOf (correctionsOf t .at30); at35 = codeOf (correctionsOf t .at35); at40 = codeOf (correctionsOf t .at40); at45 = codeOf (correctionsOf t .at45); at50 = codeOf (correctionsOf t .at50) }
+lineOf t = record {
+  kind = kindOf t;
+  lfa = lfaOf t;
+  lfb = lfbOf t;
+  df = dfOf t;
+  endpoint = endpointOf t;
+  dense = denseOf (plumeOf t);
+  at30 = codeOf (correctionsOf t .at30);
+  at35 = codeOf (correctionsOf t .at35);
+  at40 = codeOf (correctionsOf t .at40);
+  at45 = codeOf (correctionsOf t .at45);
+  at50 = codeOf (correctionsOf t .at50);
+}
 
 -- the cells, the gas and the liquid of a line
 abbrev pub correctionsFrom : Line → Corrections
-correctionsFrom l =
-    record { at30 = cellFrom (l .at30); at35 = cellFrom (l .at35); at40 = cellFrom (l .at40); at45 = cellFrom (l .at45); at50 = cellFrom (l .at50) }
+correctionsFrom l = record {
+  at30 = cellFrom (l .at30);
+  at35 = cellFrom (l .at35);
+  at40 = cellFrom (l .at40);
+  at45 = cellFrom (l .at45);
+  at50 = cellFrom (l .at50);
+}
 
 abbrev pub gasFrom : Line → Gas
 gasFrom l = record { lfb = l .lfb; df = l .df; endpoint = l .endpoint; plume = plumeFrom (l .dense) }
 
 abbrev pub liquidFrom : Line → Liquid
-liquidFrom l =
-    record { lfa = l .lfa; lfb = l .lfb; df = l .df; endpoint = l .endpoint; plume = plumeFrom (l .dense); corrections = correctionsFrom l }
+liquidFrom l = record {
+  lfa = l .lfa;
+  lfb = l .lfb;
+  df = l .df;
+  endpoint = l .endpoint;
+  plume = plumeFrom (l .dense);
+  corrections = correctionsFrom l;
+}
