@@ -125,13 +125,17 @@ module _ (n : ℕ) (bytes out : List ℕ) where
   pub all-kept : (x : Outcome) (r : Refusal) (place : ℕ) → x ≡ surveyFrom n 0 0 bytes noLeaders → x ≡ outcome.Refused r place → out ≡ filledWith (cardsFrom n 0 0 bytes) out
   all-kept x r place e q = kept-refused (cardsFrom n 0 0 bytes) (sym (all-result x e) ∙ q)
 
+  -- the walk over cards that are all answered leaves their bytes in front, in any buffer that has room for them
+  walked-answers : (own : List ℕ) (xs : List Answer) → cardsFrom n 0 0 bytes ≡ answers xs → 16 * n ≤ length own → fillFrom n 0 0 bytes own ≡ bytesOf xs ++ drop (length (bytesOf xs)) own
+  walked-answers own xs e h =
+      fill-is n 0 0 bytes own xs e
+      ∙ written-first (bytesOf xs) own (omega (arith, bytes-length xs, cards-count n 0 0 bytes xs e))
+
   -- an accepted one has what `own` holds of the answers copied over its front
   copied-answers : (own : List ℕ) (c : Cards) → cardsFrom n 0 0 bytes ≡ c → {l : Leaders} → resultOf c ≡ outcome.Accepted l → 16 * n ≤ length own → 16 * n ≤ length out → sets out 0 (take (16 * n) (fillFrom n 0 0 bytes own)) ≡ filledWith c out
   copied-answers own (answers xs) e q h k =
       let m : length (bytesOf xs) ≡ 16 * n = bytes-length xs ∙ ap (λ i. 16 * i) (cards-count n 0 0 bytes xs e) in
-      let f : fillFrom n 0 0 bytes own ≡ bytesOf xs ++ drop (length (bytesOf xs)) own =
-      fill-is n 0 0 bytes own xs e ∙ written-first (bytesOf xs) own (omega arith) in
-      ap (λ (b : List ℕ). sets out 0 (take (16 * n) b)) f
+      ap (λ (b : List ℕ). sets out 0 (take (16 * n) b)) (walked-answers own xs e h)
       ∙ (ap (λ (b : List ℕ). sets out 0 b) (take-at (bytesOf xs) (drop (length (bytesOf xs)) own) (16 * n) m)
       ∙ written-first (bytesOf xs) out (omega arith))
   copied-answers own (sent-back r place) e q h k = let z : _≡_ {A = ℕ} 0 1 = cc in clash z
@@ -144,9 +148,7 @@ module _ (n : ℕ) (bytes out : List ℕ) where
 
   -- one card is refused before a byte is written, so the walk may write into the lent buffer itself
   one-filled : (c : Cards) → cardsFrom n 0 0 bytes ≡ c → n ≤ 1 → 16 * n ≤ length out → fillFrom n 0 0 bytes out ≡ filledWith c out
-  one-filled (answers xs) e few h =
-      fill-is n 0 0 bytes out xs e
-      ∙ written-first (bytesOf xs) out (omega (arith, bytes-length xs, cards-count n 0 0 bytes xs e))
+  one-filled (answers xs) e few h = walked-answers out xs e h
   one-filled (sent-back r place) e few h = only-refused n bytes out r place few e
 
   pub one-written : (after : List ℕ) → after ≡ fillFrom n 0 0 bytes out → n ≤ 1 → 16 * n ≤ length out → after ≡ filledWith (cardsFrom n 0 0 bytes) out

@@ -2,8 +2,8 @@
 ghost use mathlib.Core.Path.{_≡_};
 ghost use Rattle.search.specs.Rising.{firstAtLeast};
 
-// The first place whose entry is at least x, or the length where there is none. The lists are short, and most of what is
-// looked for stands near the front, so a walk from there is faster than halving.
+// The first place whose entry is at least x, or the length where there is none. The lists are short and constant, and a walk over
+// them becomes comparisons with numbers: that is faster than halving.
 pub fn first_at_least(a: &[u64], x: u64) -> usize
     ensures { λ r. ⌜ r ≡ firstAtLeast x (now (a .entry)) ⌝ }
 {
