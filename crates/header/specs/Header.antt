@@ -24,6 +24,11 @@ cardSize = 24
 abbrev pub answerSize : ℕ
 answerSize = 16
 
+-- An answer buffer that no register is refused for: "Sixteen bytes a card", 2,000 cards. Who lists a register or writes it as
+-- comma lines lends none, so that number 4 never comes.
+abbrev pub enough : ℕ
+enough = answerSize * 2_000
+
 abbrev pub countOf : List ℕ → ℕ
 countOf bytes = twoAt bytes 5
 

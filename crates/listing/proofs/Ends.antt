@@ -11,7 +11,7 @@ use Rattle.refusals.specs.Numbers.{numberOf}
 use Rattle.farthest.specs.declared.Leaders.{Leaders}
 use Rattle.header.specs.declared.Header.{Header}
 use Rattle.header.specs.declared.Header.the-variants as header
-use Rattle.header.specs.Header.{headerOf}
+use Rattle.header.specs.Header.{enough, headerOf}
 use Rattle.walk.specs.declared.Outcome.{Outcome}
 use Rattle.walk.specs.declared.Outcome.the-variants as outcome
 use Rattle.register.specs.Register.{outcomeOf}
@@ -19,7 +19,7 @@ use Rattle.buffer.specs.Wrote.{Wrote}
 use Rattle.buffer.specs.Laws.{joined, written-first}
 use Rattle.closing.specs.Closing.{leaderLine, refusedLine, tooLong}
 use Rattle.listing.specs.declared.Listed.the-variants as listed
-use Rattle.listing.specs.Listing.{longest, enough, leaderLines, listedAfter, unlessLong, textOf, listingRoom, ifRoom, listedOf, keptIf, listedInto}
+use Rattle.listing.specs.Listing.{longest, leaderLines, listedAfter, unlessLong, textOf, listingRoom, ifRoom, listedOf, keptIf, listedInto}
 use Rattle.listing.specs.Walk.{linesFrom}
 use Rattle.listing.specs.Laws.{accepted-text, accepted-header, sent-back-text}
 

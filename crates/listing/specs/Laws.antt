@@ -15,7 +15,7 @@ use Rattle.card.specs.Answers.{answerOf}
 use Rattle.farthest.specs.declared.Leaders.{Leaders}
 use Rattle.header.specs.declared.Header.{Header}
 use Rattle.header.specs.declared.Header.the-variants as header
-use Rattle.header.specs.Header.{headerOf}
+use Rattle.header.specs.Header.{enough, headerOf}
 use Rattle.walk.specs.declared.Outcome.the-variants as outcome
 use Rattle.register.specs.Register.{Cards, answers, sent-back, then, cardsFrom, cardsOf, resultOf, afterHeader, outcomeOf}
 use Rattle.register.specs.Laws.{joined-is, behind-header}
@@ -23,7 +23,7 @@ use Rattle.lines.specs.Lines.{cardLine}
 use Rattle.closing.specs.Closing.{refusedLine}
 use Rattle.listing.specs.declared.Listed.{Listed}
 use Rattle.listing.specs.declared.Listed.the-variants as listed
-use Rattle.listing.specs.Listing.{enough, cardLines, leaderLines, listingOf, listedAfter, Within}
+use Rattle.listing.specs.Listing.{cardLines, leaderLines, listingOf, listedAfter, Within}
 use Rattle.listing.specs.Walk.{lined, linesFrom}
 
 -- over cards that are all answered the walk gives a line for each

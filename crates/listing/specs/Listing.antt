@@ -11,7 +11,7 @@ use Rattle.farthest.specs.declared.Leaders.{Leaders}
 use Rattle.farthest.specs.Farthest.{leadersOf}
 use Rattle.header.specs.declared.Header.{Header}
 use Rattle.header.specs.declared.Header.the-variants as header
-use Rattle.header.specs.Header.{headerSize, cardSize, answerSize, headerOf}
+use Rattle.header.specs.Header.{headerSize, cardSize, enough, headerOf}
 use Rattle.register.specs.Register.{Cards, answers, sent-back, cardsOf}
 use Rattle.lines.specs.Lines.{cardLine}
 use Rattle.closing.specs.Closing.{leaderLine, refusedLine, tooLong}
@@ -21,11 +21,6 @@ use Rattle.listing.specs.declared.Listed.the-variants as listed
 -- "the longest register that can be accepted (48,007 bytes)": the header and 2,000 cards
 abbrev pub longest : ℕ
 longest = headerSize + cardSize * 2_000
-
--- An answer buffer that no register is refused for: "Sixteen bytes a card", 2,000 cards. A listing asks for no buffer of
--- its reader, so number 4 is never printed.
-abbrev pub enough : ℕ
-enough = answerSize * 2_000
 
 -- "prints card number, route, table, pounds per minute (three decimals) and miles (two decimals)", a line for each card
 unfoldable pub cardLines : List Answer → List ℕ

@@ -8,9 +8,9 @@ ghost use mathlib.Core.Path.{_≡_};
 ghost use Prim.Native.Nat.{_*_, _≤_};
 ghost use lib.ListN.{length};
 ghost use Rattle.buffer.specs.Wrote.{Wrote};
-ghost use Rattle.header.specs.Header.{headerOf};
+ghost use Rattle.header.specs.Header.{enough, headerOf};
 ghost use Rattle.register.specs.Register.{outcomeOf};
-ghost use Rattle.listing.specs.Listing.{enough, leaderLines, listedAfter, listingRoom, listedOf, listedInto, Within};
+ghost use Rattle.listing.specs.Listing.{leaderLines, listedAfter, listingRoom, listedOf, listedInto, Within};
 ghost use Rattle.listing.specs.Walk.{linesFrom};
 
 // How many bytes of the lent buffer the listing takes, or that the buffer is too short for every listing.
