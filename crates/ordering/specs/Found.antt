@@ -1,6 +1,6 @@
 -- What an accepted register's answers are: one for each card, each the answer of that card's bytes.
 -- Assumes nothing.
-use Prim.Native.Nat.{ℕ, zero, suc, _+_, _*_, _<_, zero-le, suc-le-suc}
+use Prim.Native.Nat.{ℕ, zero, suc, _+_, _*_, _≤_, _<_, zero-le, suc-le-suc}
 use native.Mathlib.Omega.{arith}
 use native.Mathlib.Nat.{le-of-suc-le-suc, not-suc-le-zero}
 use mathlib.Core.Path.{_≡_, _∙_, refl, sym, ap, subst}
@@ -8,8 +8,8 @@ use mathlib.Core.Bool.{Bool, true, false}
 use mathlib.Core.List.{List, [], _∷_}
 use lib.ListN.{take, drop, length}
 use lib.Seq.{drop-drop}
+use borrow.Author.Tests.{le-ltb}
 use Rattle.search.specs.Laws.{clash}
-use Rattle.refusals.specs.declared.Refusal.{Refusal}
 use Rattle.refusals.specs.declared.Refusal.the-variants as refusal
 use Rattle.card.specs.declared.Answer.{Answer}
 use Rattle.card.specs.declared.Answered.{Answered}
@@ -72,26 +72,47 @@ cards-have (suc n) place last bytes xs e i h =
         subst (λ (ys : List Answer). (a : Answer) × At ys k a × AnswerAt bytes k a) (j .2) (at-head b (j .0) p (ih b (j .0) (j .1)) k w)
     go (answered.Refused r) p ih q k w = let z : _≡_ {A = ℕ} 0 1 = cc in clash z
 
--- an accepted call: its header is good, and its cards are all answered
-header-passed : (b : Bool) (r : Refusal) (m : Header) {n : ℕ} → headerIf b r m ≡ header.Good n → m ≡ header.Good n
-header-passed true r m e = let z : _≡_ {A = ℕ} 0 1 = cc in clash z
-header-passed false r m e = e
+-- a good header: none of the checks 1 to 4 refuses, and it gives the card count
+pub record Checked (bytes : List ℕ) (room n : ℕ) : Type 0 where
+  pub whole : badLength bytes ≡ false
+  pub version : badVersion bytes ≡ false
+  pub cards : badCount bytes ≡ false
+  pub buffer : badBuffer bytes room ≡ false
+  pub count : countOf bytes ≡ n
 
-good-is : {n m : ℕ} → header.Good n ≡ header.Good m → n ≡ m
-good-is e = cc
+pub checked : (bytes : List ℕ) (room n : ℕ) → headerOf bytes room ≡ header.Good n → Checked bytes room n
+unfolding headerOf
+checked bytes room n = go (badLength bytes) (badVersion bytes) (badCount bytes) (badBuffer bytes room) refl refl refl refl
+  where
+    go : (a b c d : Bool) → badLength bytes ≡ a → badVersion bytes ≡ b → badCount bytes ≡ c → badBuffer bytes room ≡ d
+        → headerIf a refusal.Length (headerIf b refusal.Version (headerIf c refusal.Count (headerIf d refusal.Buffer (header.Good (countOf bytes))))) ≡ header.Good n
+        → Checked bytes room n
+    go true b c d p q r s e = clash (cc)
+    go false true c d p q r s e = clash (cc)
+    go false false true d p q r s e = clash (cc)
+    go false false false true p q r s e = clash (cc)
+    go false false false false p q r s e = record { whole = p; version = q; cards = r; buffer = s; count = good-is e }
+      where
+        good-is : {m k : ℕ} → header.Good m ≡ header.Good k → m ≡ k
+        good-is u = cc
 
 pub header-count : (bytes : List ℕ) (room n : ℕ) → headerOf bytes room ≡ header.Good n → countOf bytes ≡ n
-unfolding headerOf
-header-count bytes room n e =
-    let last : Header = header.Good (countOf bytes) in
-    let third : Header = headerIf (badBuffer bytes room) refusal.Buffer last in
-    let second : Header = headerIf (badCount bytes) refusal.Count third in
-    let first : Header = headerIf (badVersion bytes) refusal.Version second in
-    let a : first ≡ header.Good n = header-passed (badLength bytes) refusal.Length first e in
-    let b : second ≡ header.Good n = header-passed (badVersion bytes) refusal.Version second a in
-    let c : third ≡ header.Good n = header-passed (badCount bytes) refusal.Count third b in
-    good-is (header-passed (badBuffer bytes room) refusal.Buffer last c)
+header-count bytes room n e = checked bytes room n e .count
 
+-- acceptance and both farthest cards are the same with every buffer that number 4 lets pass
+any-header : (bytes : List ℕ) (room other : ℕ) (h : Header) {l : Leaders} → headerOf bytes room ≡ h → 16 * countOf bytes ≤ other → afterHeader h bytes ≡ outcome.Accepted l → afterHeader (headerOf bytes other) bytes ≡ outcome.Accepted l
+unfolding headerOf badBuffer
+any-header bytes room other (header.Good n) p k e =
+    let c = checked bytes room n p in
+    let q : headerOf bytes other ≡ header.Good n = rw (c .whole, c .version, c .cards, le-ltb other (16 * countOf bytes) k) (ap header.Good (c .count)) in
+    ap (λ y. afterHeader y bytes) q ∙ e
+any-header bytes room other (header.Refused r) p k e = clash (cc)
+
+pub any-room : (bytes : List ℕ) (room other : ℕ) {l : Leaders} → outcomeOf bytes room ≡ outcome.Accepted l → 16 * countOf bytes ≤ other → outcomeOf bytes other ≡ outcome.Accepted l
+unfolding outcomeOf
+any-room bytes room other e k = any-header bytes room other (headerOf bytes room) refl k e
+
+-- an accepted call: its header is good, and its cards are all answered
 pub record Found (bytes : List ℕ) (leaders : Leaders) : Type 0 where
   pub list : List Answer
   pub cards : cardsFrom (countOf bytes) 0 0 (drop 7 bytes) ≡ answers list

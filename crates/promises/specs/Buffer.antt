@@ -3,14 +3,11 @@
 use Prim.Native.Nat.{ℕ, zero, suc, _+_, _-_, _*_, _≤_, _<_}
 use native.Mathlib.Omega.{arith}
 use mathlib.Core.Path.{_≡_, _∙_, refl, sym, ap}
-use mathlib.Core.Bool.{Bool, true, false}
 use mathlib.Core.List.{List, [], _∷_, _++_, append-assoc}
 use lib.ListN.{length, getD, drop, List·getD-append}
 use lib.Seq.{getD-append-add, getD-drop}
-use borrow.Author.Tests.{le-ltb}
 use Rattle.search.specs.Laws.{clash}
 use Rattle.refusals.specs.declared.Refusal.{Refusal}
-use Rattle.refusals.specs.declared.Refusal.the-variants as refusal
 use Rattle.card.specs.declared.Answer.{Answer}
 use Rattle.card.specs.declared.Answered.the-variants as answered
 use Rattle.card.specs.Answers.{answerOf}
@@ -20,12 +17,12 @@ use Rattle.encode.specs.Bytes.{answerBytes}
 use Rattle.encode.specs.Laws.{length-answer}
 use Rattle.header.specs.declared.Header.{Header}
 use Rattle.header.specs.declared.Header.the-variants as header
-use Rattle.header.specs.Header.{badLength, badVersion, badCount, badBuffer, headerIf, headerOf, countOf}
+use Rattle.header.specs.Header.{headerOf, countOf}
 use Rattle.walk.specs.declared.Outcome.the-variants as outcome
 use Rattle.register.specs.Register.{Cards, answers, sent-back, cardsFrom, cardsOf, resultOf, afterHeader, outcomeOf, bytesOf, filledWith, filledAfter, bufferOf}
 use Rattle.register.specs.Laws.{cards-count, bytes-length}
 use Rattle.ordering.specs.Claim.{cardAt, Accepts}
-use Rattle.ordering.specs.Found.{Found, found, header-count, to-card}
+use Rattle.ordering.specs.Found.{Found, found, header-count, any-room, to-card}
 
 good-filled : (bytes out : List ℕ) (h : Header) {l : Leaders} (f : Found bytes l) → headerOf bytes (length out) ≡ h → afterHeader h bytes ≡ outcome.Accepted l → filledAfter h bytes out ≡ bytesOf (f .list) ++ drop (length (bytesOf (f .list))) out
 unfolding cardsOf
@@ -88,21 +85,5 @@ unfolding outcomeOf bufferOf
 buffer-kept bytes out r place e = kept-header (headerOf bytes (length out)) bytes out e
 
 -- Acceptance and both farthest cards are the same with every buffer that number 4 lets pass.
-room-free : (a b c d e : Bool) (r s t u : Refusal) (m : Header) {n : ℕ} → headerIf a r (headerIf b s (headerIf c t (headerIf d u m))) ≡ header.Good n → e ≡ false → headerIf a r (headerIf b s (headerIf c t (headerIf e u m))) ≡ header.Good n
-room-free true b c d e r s t u m p q = let z : _≡_ {A = ℕ} 0 1 = cc in clash z
-room-free false true c d e r s t u m p q = let z : _≡_ {A = ℕ} 0 1 = cc in clash z
-room-free false false true d e r s t u m p q = let z : _≡_ {A = ℕ} 0 1 = cc in clash z
-room-free false false false true e r s t u m p q = let z : _≡_ {A = ℕ} 0 1 = cc in clash z
-room-free false false false false true r s t u m p q = let z : _≡_ {A = ℕ} 0 1 = cc in clash z
-room-free false false false false false r s t u m p q = p
-
-any-header : (bytes : List ℕ) (room other : ℕ) (h : Header) {l : Leaders} → headerOf bytes room ≡ h → 16 * countOf bytes ≤ other → afterHeader h bytes ≡ outcome.Accepted l → afterHeader (headerOf bytes other) bytes ≡ outcome.Accepted l
-unfolding headerOf badBuffer
-any-header bytes room other (header.Good n) p k e =
-    let q : headerOf bytes other ≡ header.Good n = room-free (badLength bytes) (badVersion bytes) (badCount bytes) (badBuffer bytes room) (badBuffer bytes other) refusal.Length refusal.Version refusal.Count refusal.Buffer (header.Good (countOf bytes)) p (le-ltb other (16 * countOf bytes) k) in
-    ap (λ y. afterHeader y bytes) q ∙ e
-any-header bytes room other (header.Refused r) p k e = let z : _≡_ {A = ℕ} 0 1 = cc in clash z
-
 pub any-buffer : (bytes out other : List ℕ) (l : Leaders) → Accepts bytes out l → 16 * countOf bytes ≤ length other → Accepts bytes other l
-unfolding outcomeOf
-any-buffer bytes out other l e k = any-header bytes (length out) (length other) (headerOf bytes (length out)) refl k e
+any-buffer bytes out other l e k = any-room bytes (length out) (length other) e k
