@@ -1,5 +1,6 @@
--- Demand 1, "accepts or gives exactly the numbered refusal whose condition holds": what it says of any bytes and any answer
--- buffer. The theorem is `refused-exactly` of `Exactly`.
+-- Demand 1, "accepts or gives exactly the numbered refusal whose condition holds": what it says of any call and any table of
+-- conditions, and of the register call for any bytes and any answer buffer. The theorem is `refused-exactly` of `Exactly`; the
+-- calls of comma lines have theirs in `LinesClaim`.
 -- Assumes nothing.
 use Prim.Native.Nat.{ℕ, _<_}
 use mathlib.Core.Path.{_≡_, refl}
@@ -14,26 +15,33 @@ use Rattle.register.specs.Register.{outcomeOf}
 use Rattle.conditions.specs.Conditions.{Condition, condition, only, ofRegister, ofCard, conditionsAt}
 use Rattle.conditions.specs.First.{holdsIn, Names}
 
--- the condition in a line of the table holds at a place; lines and places are counted from 0
-abbrev pub Holds : List ℕ → ℕ → ℕ → ℕ → Type 0
-Holds bytes room line place = holdsIn (conditionsAt bytes room place) line ≡ true
+-- A table has a list of conditions at each place. The condition in a line of it holds at a place; lines and places are counted
+-- from 0.
+abbrev pub Holds : (ℕ → List Condition) → ℕ → ℕ → Type 0
+Holds table line place = holdsIn (table place) line ≡ true
 
--- a refusal's condition holds at a place, no condition in a line above it holds there, and none holds at an earlier place. 1 to
--- 4 stand above 5 to 11 and at place 0 alone, so they come before every card.
-pub record First (bytes : List ℕ) (room : ℕ) (r : Refusal) (place : ℕ) : Type 0 where
+-- a refusal's condition holds at a place, no condition in a line above it holds there, and none holds at an earlier place
+pub record First (table : ℕ → List Condition) (r : Refusal) (place : ℕ) : Type 0 where
   pub line : ℕ
-  pub names : Names (conditionsAt bytes room place) line r
-  pub holds : Holds bytes room line place
-  pub above : (i : ℕ) → i < line → Holds bytes room i place → ⊥
-  pub earlier : (p i : ℕ) → p < place → Holds bytes room i p → ⊥
+  pub names : Names (table place) line r
+  pub holds : Holds table line place
+  pub above : (i : ℕ) → i < line → Holds table i place → ⊥
+  pub earlier : (p i : ℕ) → p < place → Holds table i p → ⊥
 
--- Demand 1: the call gives a refusal at a place exactly when its condition is the first that holds, and accepts exactly when no
--- condition holds anywhere.
+-- Demand 1 of any call: it gives a refusal at a place exactly when its condition is the first that holds, and accepts exactly
+-- when no condition holds anywhere.
+abbrev pub ExactlyBy : (ℕ → List Condition) → (Refusal → ℕ → Type 0) → Type 0 → Type 0
+ExactlyBy table Refused Accepted =
+    ((r : Refusal) (place : ℕ) → Refused r place ↔ First table r place)
+    × (Accepted ↔ ((place line : ℕ) → Holds table line place → ⊥))
+
+-- Demand 1 of the register call. 1 to 4 stand above 5 to 11 and at place 0 alone, so they come before every card.
 abbrev pub RefusedExactly : Type 0
 RefusedExactly =
     (bytes : List ℕ) (room : ℕ)
-    → ((r : Refusal) (place : ℕ) → (outcomeOf bytes room ≡ outcome.Refused r place) ↔ First bytes room r place)
-    × (((l : Leaders) × (outcomeOf bytes room ≡ outcome.Accepted l)) ↔ ((place line : ℕ) → Holds bytes room line place → ⊥))
+    → ExactlyBy (conditionsAt bytes room)
+    (λ r place. outcomeOf bytes room ≡ outcome.Refused r place)
+    ((l : Leaders) × (outcomeOf bytes room ≡ outcome.Accepted l))
 
 -- the number of a line's refusal
 abbrev pub numberIn : Condition → ℕ

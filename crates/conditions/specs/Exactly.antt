@@ -28,10 +28,11 @@ use Rattle.walk.specs.declared.Outcome.the-variants as outcome
 use Rattle.register.specs.Register.{Cards, answers, sent-back, joined, then, cardsFrom, cardsOf, resultOf, afterHeader, outcomeOf}
 use Rattle.ordering.specs.Claim.{cardAt}
 use Rattle.ordering.specs.Found.{header-count}
-use Rattle.conditions.specs.Conditions.{Condition, condition, only, ofRegister, ofCard, numberBefore, conditionsAt}
-use Rattle.conditions.specs.First.{Verdict, passed, refused, pick, firstOf, Names, none-holds, first-leads, names-one, after, first-append, first-here, first-elsewhere}
+use Rattle.conditions.specs.Conditions.{Condition, only, ofRegister, ofCard, numberBefore, conditionsAt}
+use Rattle.conditions.specs.First.{Verdict, passed, refused, pick, firstOf, after, first-append, first-here, first-elsewhere}
 use Rattle.conditions.specs.Cards.{verdictOf, card-verdict}
-use Rattle.conditions.specs.Claim.{Holds, First, RefusedExactly}
+use Rattle.conditions.specs.Claim.{RefusedExactly}
+use Rattle.conditions.specs.Tables.{Passes, Refuses, exactly-by}
 
 -- ---- the cards in turn
 
@@ -133,22 +134,10 @@ module _ (bytes : List ℕ) (room : ℕ) where
       first-append (only true (ofRegister bytes room)) (only (ltb 0 (countOf bytes)) (cardLines 0))
       ∙ ap (λ v. after v (firstOf (only (ltb 0 (countOf bytes)) (cardLines 0)))) (first-here (ofRegister bytes room) ∙ e)
 
-  -- a place whose table refuses, and none before it, is the first
-  to-first : (r : Refusal) (place : ℕ) → table place ≡ refused r → ((p : ℕ) → p < place → table p ≡ passed) → First bytes room r place
-  to-first r place e before =
-      let l = first-leads (conditionsAt bytes room place) r e in
-      record {
-        line = l .line;
-        names = l .names;
-        holds = l .holds;
-        above = l .above;
-        earlier = λ p i h. none-holds (conditionsAt bytes room p) (before p h) i;
-      }
-
   -- what the call answers, in terms of the table
-  abbrev Told : Outcome → Type 0
-  Told (outcome.Accepted l) = (p : ℕ) → table p ≡ passed
-  Told (outcome.Refused r place) = (table place ≡ refused r) × ((p : ℕ) → p < place → table p ≡ passed)
+  abbrev pub Told : Outcome → Type 0
+  Told (outcome.Accepted l) = Passes (conditionsAt bytes room)
+  Told (outcome.Refused r place) = Refuses (conditionsAt bytes room) r place
 
   cards-told : (c : Cards) → firstOf (ofRegister bytes room) ≡ passed → Walked bytes c 0 (countOf bytes) → Told (resultOf c)
   cards-told (answers xs) e w = λ p.
@@ -169,67 +158,20 @@ module _ (bytes : List ℕ) (room : ℕ) where
   header-told (header.Refused r) e =
       (header-first r (header-verdict bytes room ∙ ap headerVerdict e), λ p h. absurd (not-suc-le-zero h))
 
-  told : Told (outcomeOf bytes room)
+  pub told : Told (outcomeOf bytes room)
   unfolding outcomeOf
   told = header-told (headerOf bytes room) refl
 
-  refused-first : (r : Refusal) (place : ℕ) → outcomeOf bytes room ≡ outcome.Refused r place → First bytes room r place
-  refused-first r place e = let t : Told (outcome.Refused r place) = subst Told e told in to-first r place (t .0) (t .1)
-
-  accepted-none : (l : Leaders) → outcomeOf bytes room ≡ outcome.Accepted l → (place line : ℕ) → Holds bytes room line place → ⊥
-  accepted-none l e place line =
-      let t : Told (outcome.Accepted l) = subst Told e told in
-      none-holds (conditionsAt bytes room place) (t place) line
-
-  -- there is one first
-  same-place : {r s : Refusal} {p q : ℕ} → First bytes room r p → First bytes room s q → p ≡ q
-  same-place {r} {s} {p} {q} x y =
-      ⊎-elim
-      (λ (h : p < q). absurd (y .earlier p (x .line) h (x .holds)))
-      (λ (h : q ≤ p).
-      ⊎-elim
-      (λ (k : q < p). absurd (x .earlier q (y .line) k (y .holds)))
-      (λ (k : p ≤ q). let z : p ≡ q = omega arith in z)
-      (lt-or-ge q p))
-      (lt-or-ge p q)
-
-  same-line : {r s : Refusal} {p : ℕ} (x : First bytes room r p) (y : First bytes room s p) → x .line ≡ y .line
-  same-line x y =
-      ⊎-elim
-      (λ (h : x .line < y .line). absurd (y .above (x .line) h (x .holds)))
-      (λ (h : y .line ≤ x .line).
-      ⊎-elim
-      (λ (k : y .line < x .line). absurd (x .above (y .line) k (y .holds)))
-      (λ (k : x .line ≤ y .line). let z : x .line ≡ y .line = omega arith in z)
-      (lt-or-ge (y .line) (x .line)))
-      (lt-or-ge (x .line) (y .line))
-
-  same-refusal : {r s : Refusal} {p : ℕ} (x : First bytes room r p) (y : First bytes room s p) → r ≡ s
-  same-refusal {r} {s} {p} x y =
-      names-one (conditionsAt bytes room p) (y .line) r s
-      (subst (λ i. Names (conditionsAt bytes room p) i r) (same-line x y) (x .names))
-      (y .names)
-
-  first-refused : (r : Refusal) (place : ℕ) → First bytes room r place → outcomeOf bytes room ≡ outcome.Refused r place
-  first-refused r place x = go (outcomeOf bytes room) refl
-    where
-      go : (o : Outcome) → outcomeOf bytes room ≡ o → outcomeOf bytes room ≡ outcome.Refused r place
-      go (outcome.Accepted l) e = absurd (accepted-none l e place (x .line) (x .holds))
-      go (outcome.Refused s q) e =
-          let y = refused-first s q e in
-          let p = same-place x y in
-          let x′ : First bytes room r q = subst (First bytes room r) p x in
-          e ∙ (ap (λ k. outcome.Refused s k) (sym p) ∙ ap (λ k. outcome.Refused k place) (sym (same-refusal x′ y)))
-
-  none-accepted : ((place line : ℕ) → Holds bytes room line place → ⊥) → (l : Leaders) × (outcomeOf bytes room ≡ outcome.Accepted l)
-  none-accepted none = go (outcomeOf bytes room) refl
-    where
-      go : (o : Outcome) → outcomeOf bytes room ≡ o → (l : Leaders) × (outcomeOf bytes room ≡ outcome.Accepted l)
-      go (outcome.Accepted l) e = (l, e)
-      go (outcome.Refused s q) e = let y = refused-first s q e in absurd (none q (y .line) (y .holds))
+-- it accepts or refuses
+ends : (o : Outcome) → ((l : Leaders) × (o ≡ outcome.Accepted l)) ⊎ ((r : Refusal) × (place : ℕ) × (o ≡ outcome.Refused r place))
+ends (outcome.Accepted l) = inl (l, refl)
+ends (outcome.Refused r place) = inr (r, place, refl)
 
 pub refused-exactly : RefusedExactly
-refused-exactly bytes room = (
-  λ r place. (refused-first bytes room r place, first-refused bytes room r place),
-  (λ a. accepted-none bytes room (a .0) (a .1), none-accepted bytes room),
-)
+refused-exactly bytes room =
+    exactly-by (conditionsAt bytes room)
+    (λ r place. outcomeOf bytes room ≡ outcome.Refused r place)
+    ((l : Leaders) × (outcomeOf bytes room ≡ outcome.Accepted l))
+    (ends (outcomeOf bytes room))
+    (λ a. subst (Told bytes room) (a .1) (told bytes room))
+    (λ r place e. subst (Told bytes room) e (told bytes room))

@@ -77,6 +77,10 @@ abbrev pub after : Verdict → Verdict → Verdict
 after passed v = v
 after (refused r) v = refused r
 
+pub after-passed : (v : Verdict) → after v passed ≡ v
+after-passed passed = refl
+after-passed (refused r) = refl
+
 pub first-append : (xs ys : List Condition) → firstOf (xs ++ ys) ≡ after (firstOf xs) (firstOf ys)
 unfolding firstOf
 first-append [] ys = refl

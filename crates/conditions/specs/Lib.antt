@@ -7,4 +7,5 @@ pub mod Mismatch
 pub mod Beyond
 pub mod Cards
 pub mod Claim
+pub mod Tables
 pub mod Exactly
