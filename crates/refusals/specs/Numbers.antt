@@ -1,4 +1,4 @@
--- The numbers of document 01's "When a register is sent back".
+-- The numbers of document 01's "When a register is sent back", and those that document 02 adds.
 -- Assumes nothing.
 use Prim.Native.Nat.{ℕ}
 use Rattle.refusals.specs.declared.Refusal.{Refusal}
@@ -16,3 +16,6 @@ numberOf refusal.Quantity = 8
 numberOf refusal.Range = 9
 numberOf refusal.Mismatch = 10
 numberOf refusal.Beyond = 11
+-- document 02, A1
+numberOf refusal.Line = 12
+numberOf refusal.Room = 13

@@ -1,8 +1,8 @@
-// Why a register is sent back.
+// Why a register is sent back, or a text of comma lines.
 ghost use mathlib.Core.Path.{_≡_};
 ghost use Rattle.refusals.specs.Numbers.{numberOf};
 
-// Document 01's reasons 1 to 11, in its order.
+// Document 01's reasons 1 to 11, in its order, and those of document 02 behind them.
 pub enum Refusal {
     Length,
     Version,
@@ -15,9 +15,11 @@ pub enum Refusal {
     Range,
     Mismatch,
     Beyond,
+    Line,
+    Room,
 }
 
-// Document 01's number of a refusal.
+// The number of a refusal.
 pub fn number(refusal: Refusal) -> u8
     ensures { λ r. ⌜ r ≡ numberOf refusal ⌝ }
 {
@@ -33,5 +35,7 @@ pub fn number(refusal: Refusal) -> u8
         Refusal::Range => 9,
         Refusal::Mismatch => 10,
         Refusal::Beyond => 11,
+        Refusal::Line => 12,
+        Refusal::Room => 13,
     }
 }
