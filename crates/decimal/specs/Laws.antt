@@ -126,7 +126,7 @@ padded-all (suc count) n = last-digit (padded count (n / 10)) (n % 10) (omega ar
 pub digits-all : (n : ℕ) → AllDigits (digits n)
 digits-all n = rw (digits-padded n) (padded-all (length (digits n)) n)
 
-read-append : (s t : List ℕ) (so-far : ℕ) → readFrom so-far (s ++ t) ≡ readFrom (readFrom so-far s) t
+pub read-append : (s t : List ℕ) (so-far : ℕ) → readFrom so-far (s ++ t) ≡ readFrom (readFrom so-far s) t
 unfolding readFrom
 read-append [] t so-far = refl
 read-append (b ∷ s) t so-far = read-append s t (so-far * 10 + (b - 48))

@@ -1,0 +1,3 @@
+mod Spaces
+mod Digits
+mod Ends
