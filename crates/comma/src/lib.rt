@@ -1,0 +1,177 @@
+// A comma line: its eleven fields read into the fields of a card, or found not well formed.
+use fields::Fields;
+use numerals::Form;
+use numerals::Number;
+use refusals::Refusal;
+ghost use mathlib.Core.Path.{_≡_};
+ghost use lib.ListN.{drop};
+ghost use Rattle.comma.specs.Line.{fieldsIn, lastsIn, lineOf};
+ghost use Rattle.comma.specs.Stages.{takenAt, CodesTold, AmountsTold};
+
+// What a line means: the fields of a card; or nothing, since it is not eleven well-formed fields or too long.
+pub enum Line {
+    Card(Fields),
+    Malformed,
+}
+
+// The first four fields of a line.
+pub struct Codes {
+    pub kind: u8,
+    pub state: u8,
+    pub ground: u8,
+    pub containment: u8,
+}
+
+// The next three.
+pub struct Amounts {
+    pub cas: u32,
+    pub pounds: u32,
+    pub area: u32,
+}
+
+// What a call between a text and a register answers: how many bytes it wrote, or a refusal and its place.
+pub enum Converted {
+    Bytes(usize),
+    Refused(Refusal, usize),
+}
+
+// A number and the place where the next field starts.
+pub enum Taken {
+    Is(u32, usize),
+    Malformed,
+}
+
+// The codes, or the amounts, and the place where the next field starts.
+pub enum CodesRead {
+    Are(Codes, usize),
+    Malformed,
+}
+
+pub enum AmountsRead {
+    Are(Amounts, usize),
+    Malformed,
+}
+
+// "A line is at most 200 bytes"
+const LONGEST: usize = 200;
+
+// What fits one, two and four bytes.
+const ONE_BYTE: u32 = 255;
+
+const TWO_BYTES: u32 = 65_535;
+
+const FOUR_BYTES: u32 = 4_294_967_295;
+
+// The number of the field that starts at a place. A comma has to end it, since a number is never the last field.
+fn take_field(line: &[u8], at: usize, form: Form) -> Taken
+    ensures { λ r. ⌜ r ≡ takenAt form (now (line .entry)) at ⌝ }
+{
+    let end = pieces::end_of(line, at, b',');
+    if line.len() <= end {
+        return Taken::Malformed;
+    }
+    let number = numerals::value_in(form, &line[at..end]);
+    let Number::Is(n) = number else {
+        return Taken::Malformed;
+    };
+    Taken::Is(n, end + 1)
+}
+
+// Kind, state, ground and containment, from the start of the line.
+fn codes_of(line: &[u8]) -> CodesRead
+    ensures { λ r. ⌜ CodesTold (now (line .entry)) r ⌝ }
+{
+    let first = take_field(line, 0, Form::Decimal(ONE_BYTE));
+    let Taken::Is(kind, at1) = first else {
+        return CodesRead::Malformed;
+    };
+    let second = take_field(line, at1, Form::Decimal(ONE_BYTE));
+    let Taken::Is(state, at2) = second else {
+        return CodesRead::Malformed;
+    };
+    let third = take_field(line, at2, Form::Decimal(ONE_BYTE));
+    let Taken::Is(ground, at3) = third else {
+        return CodesRead::Malformed;
+    };
+    let fourth = take_field(line, at3, Form::Decimal(ONE_BYTE));
+    let Taken::Is(containment, at4) = fourth else {
+        return CodesRead::Malformed;
+    };
+    let codes = Codes {
+        kind: kind as u8,
+        state: state as u8,
+        ground: ground as u8,
+        containment: containment as u8,
+    };
+    CodesRead::Are(codes, at4)
+}
+
+// CAS number, pounds and area.
+fn amounts_at(line: &[u8], at: usize) -> AmountsRead
+    ensures { λ r. ⌜ AmountsTold (now (line .entry)) at r ⌝ }
+{
+    let first = take_field(line, at, Form::Cas);
+    let Taken::Is(cas, at1) = first else {
+        return AmountsRead::Malformed;
+    };
+    let second = take_field(line, at1, Form::Decimal(FOUR_BYTES));
+    let Taken::Is(pounds, at2) = second else {
+        return AmountsRead::Malformed;
+    };
+    let third = take_field(line, at2, Form::Decimal(FOUR_BYTES));
+    let Taken::Is(area, at3) = third else {
+        return AmountsRead::Malformed;
+    };
+    AmountsRead::Are(Amounts { cas, pounds, area }, at3)
+}
+
+// Wall, temperature and card number, and the remark, which is the last field and is dropped.
+fn lasts_at(line: &[u8], at: usize, codes: Codes, amounts: Amounts) -> Line
+    ensures { λ r. ⌜ r ≡ lastsIn codes amounts (fieldsIn (drop at (now (line .entry)))) ⌝ }
+{
+    let first = take_field(line, at, Form::Decimal(TWO_BYTES));
+    let Taken::Is(wall, at1) = first else {
+        return Line::Malformed;
+    };
+    let second = take_field(line, at1, Form::Temperature);
+    let Taken::Is(heat, at2) = second else {
+        return Line::Malformed;
+    };
+    let third = take_field(line, at2, Form::Decimal(FOUR_BYTES));
+    let Taken::Is(number, at3) = third else {
+        return Line::Malformed;
+    };
+    if pieces::end_of(line, at3, b',') < line.len() {
+        return Line::Malformed;
+    }
+    Line::Card(Fields {
+        kind: codes.kind,
+        state: codes.state,
+        ground: codes.ground,
+        containment: codes.containment,
+        cas: amounts.cas,
+        pounds: amounts.pounds,
+        area: amounts.area,
+        wall: wall as u16,
+        heat: heat as u16,
+        number,
+    })
+}
+
+// The card of a line, without its line feed.
+pub fn line_of(line: &[u8]) -> Line
+    ensures { λ r. ⌜ r ≡ lineOf (now (line .entry)) ⌝ }
+{
+    if LONGEST < line.len() {
+        return Line::Malformed;
+    }
+    let first = codes_of(line);
+    let CodesRead::Are(codes, at1) = first else {
+        return Line::Malformed;
+    };
+    let second = amounts_at(line, at1);
+    let AmountsRead::Are(amounts, at2) = second else {
+        return Line::Malformed;
+    };
+    lasts_at(line, at2, codes, amounts)
+}
