@@ -5,19 +5,25 @@ use Prim.Native.Nat.{ℕ, zero, suc, _≤_, _<_, suc-le-suc}
 use native.Mathlib.Nat.{le-of-suc-le-suc, not-suc-le-zero}
 use native.Mathlib.Omega.{arith}
 use mathlib.Core.Path.{_≡_, refl, ap}
-use mathlib.Core.List.{List, [], _∷_}
+use mathlib.Core.List.{List, [], _∷_, map}
 use mathlib.Core.Bool.{true}
 use mathlib.Core.Logic.{⊎-elim}
-use lib.Dec.{leb}
+use lib.Dec.{leb, ltb}
 use lib.ListN.{length, getD}
-use borrow.Author.Tests.{leb-true}
+use borrow.Author.Tests.{leb-true, ltb-true}
 use Rattle.units.specs.declared.Miles.{Miles}
 use Rattle.units.specs.declared.Reading.the-variants.{Distance, Beyond}
 use Rattle.search.specs.Rising.{firstAtLeast, rises}
 use Rattle.search.specs.Laws.{lt-or-ge, first-mono, rising}
-use Rattle.search.specs.PlaceLaws.{look-each}
+use Rattle.search.specs.PlaceLaws.{among-each, look-each}
 use Rattle.blast.specs.Printed13.{quantities, table13}
-use Rattle.blast.specs.Blast.{casOf, rowIn, rowOf, entryAt, blastReading}
+use Rattle.blast.specs.Blast.{casOf, rowIn, isFlammable, rowOf, entryAt, blastReading}
+
+-- a CAS number that is listed has at most eight digits
+pub listed-below : (cas : ℕ) → isFlammable cas ≡ true → cas < 100_000_000
+unfolding isFlammable table13
+listed-below cas e =
+    ltb-true cas 100_000_000 (among-each (λ c. ltb c 100_000_000) cas (map casOf table13) refl e)
 
 -- "its entries never fall along a row": one test over the whole table
 pub row-rises : (cas : ℕ) → rises (rowOf cas) ≡ true

@@ -1,14 +1,14 @@
 -- What other crates use of the exhibits instead of their text: each factor is within the limit that the paper gives it.
 -- Assumes nothing.
-use Prim.Native.Nat.{ℕ, _≤_}
+use Prim.Native.Nat.{ℕ, _≤_, _<_}
 use mathlib.Core.Path.{_≡_, refl, ap, sym, _∙_}
 use mathlib.Core.List.{List, _++_, map}
 use mathlib.Core.Bool.{Bool, true, false}
-use lib.Dec.{leb}
-use borrow.Author.Tests.{leb-true}
+use lib.Dec.{leb, ltb}
+use borrow.Author.Tests.{leb-true, ltb-true}
 use Rattle.search.specs.Places.{among, every, lookUp}
 use Rattle.search.specs.Arms.{Missed, missed}
-use Rattle.search.specs.PlaceLaws.{among-apart, look-none, look-each}
+use Rattle.search.specs.PlaceLaws.{among-apart, among-each, look-none, look-each}
 use Rattle.exhibits.specs.declared.Cell.{Cell}
 use Rattle.exhibits.specs.declared.Cell.the-variants.{Factor, Lfb, NoData}
 use Rattle.exhibits.specs.declared.Toxic.{Toxic}
@@ -30,6 +30,16 @@ not-listed cas absent =
 -- the line of a CAS number that no line of either exhibit has
 pub no-line : (cas : ℕ) → Missed cas (map gasCas b1 ++ map liquidCas b2) → lineOf NotListed ≡ lineOf (toxicOf cas)
 no-line cas m = ap lineOf (sym (not-listed cas (missed cas (map gasCas b1 ++ map liquidCas b2) m)))
+
+-- a CAS number that is in one of them has at most eight digits
+pub listed-below : (cas : ℕ) → (toxicOf cas ≡ NotListed → ⊥) → cas < 100_000_000
+unfolding b1 b2
+listed-below cas n = go (among cas (map gasCas b1 ++ map liquidCas b2)) refl
+  where
+    go : (t : Bool) → among cas (map gasCas b1 ++ map liquidCas b2) ≡ t → cas < 100_000_000
+    go true e =
+        ltb-true cas 100_000_000 (among-each (λ c. ltb c 100_000_000) cas (map gasCas b1 ++ map liquidCas b2) refl e)
+    go false e = absurd (n (not-listed cas e))
 
 -- a test that passes at each line of the exhibits, and where nothing is listed, passes at any CAS number
 pub listed : (ok : Toxic → Bool) → ok NotListed ≡ true → every (λ g. ok (gasIn g)) b1 ≡ true → every (λ l. ok (liquidIn l)) b2 ≡ true → (cas : ℕ) → ok (toxicOf cas) ≡ true

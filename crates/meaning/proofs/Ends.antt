@@ -6,14 +6,13 @@ use native.Mathlib.Omega.{arith}
 use native.Mathlib.Nat.{zero-add}
 use mathlib.Core.Path.{_≡_, _∙_, refl, ap, sym, subst}
 use mathlib.Core.Bool.{Bool, true, false, not}
-use lib.Dec.{leb, ltb, eqb}
+use lib.Dec.{leb, ltb}
 use lib.IntN.{ℤ, pos, negsuc, _-ℤ_}
 use lib.Signed.{ltZ}
 use mir.Syntax.{w16}
 use mir.Val.{SFits, toZ, ofZ}
 use mir.Facts.{toZ-ofZ, toZ-pos}
-use borrow.Author.Tests.{eq-eqb, ne-eqb, lt-ltb, le-ltb, ltb-false, eqb-true}
-use Rattle.search.specs.Places.{either}
+use borrow.Author.Tests.{eq-eqb, ne-eqb, lt-ltb, le-ltb}
 use Rattle.units.specs.declared.Pounds.{Pounds}
 use Rattle.exhibits.specs.declared.Toxic.{Toxic}
 use Rattle.exhibits.specs.Exhibits.{toxicOf}
@@ -31,6 +30,7 @@ use Rattle.meaning.specs.declared.Bounds.the-variants as bounds
 use Rattle.meaning.specs.declared.Meaning.{Meaning}
 use Rattle.meaning.specs.declared.Meaning.the-variants as meaning
 use Rattle.meaning.specs.Reading.{badNumber, badPounds, badArea, badWall, badHeat, signed, boundsOf, boundsRefusal, BoundsLimits, toxicBounded, isListed, toxicMeaning, flammableOf, shaped, meaningOf}
+use Rattle.meaning.specs.Ranges.{pounds-within}
 
 -- the area
 module _ (b area : ℕ) where
@@ -65,12 +65,7 @@ pounds-many n m = simp (ne-eqb n 0 m)
 
 -- pounds in range are at most ten million
 pub pounds-fit : (n : ℕ) (b : Bool) → b ≡ badPounds n → b ≡ false → n ≤ 10_000_000
-unfolding badPounds
-pounds-fit n b e q = go (eqb n 0) refl (sym e ∙ q)
-  where
-    go : (t : Bool) → eqb n 0 ≡ t → either t (ltb 10_000_000 n) ≡ false → n ≤ 10_000_000
-    go true p h = let z : n ≡ 0 = eqb-true n 0 p in omega arith
-    go false p h = ltb-false 10_000_000 n h
+pounds-fit n b e q = pounds-within n (sym e ∙ q)
 
 -- two's complement
 one-less : (m : ℕ) → negsuc 0 -ℤ pos m ≡ negsuc m

@@ -1,2 +1,4 @@
 pub mod Reading
 pub mod Inverse
+pub mod Same
+pub mod Ranges

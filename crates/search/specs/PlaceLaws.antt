@@ -8,8 +8,13 @@ use mathlib.Core.Bool.{Bool, true, false, not}
 use lib.Dec.{ltb, eqb, leb·suc-suc}
 use lib.ListN.{length, getD}
 use borrow.Author.Tests.{eqb-true, lt-ltb, not-true}
-use Rattle.search.specs.Laws.{both-true}
+use Rattle.search.specs.Laws.{clash, both-true}
 use Rattle.search.specs.Places.{placeOf, either, among, every, lookUp}
+
+-- where none of two tests passes, each fails
+pub neither : (s t : Bool) → either s t ≡ false → (s ≡ false) × (t ≡ false)
+neither true t e = clash (cc)
+neither false t e = (refl, e)
 
 -- it lies within the list exactly where x is one of the entries
 pub place-among : (x : ℕ) (xs : List ℕ) → ltb (placeOf x xs) (length xs) ≡ among x xs
@@ -52,6 +57,19 @@ among-one x (a ∷ rest) ys all e = go (eqb x a) refl (among-one x rest ys (halv
 
     go : (t : Bool) → eqb x a ≡ t → (among x rest ≡ true → among x ys ≡ false) → either t (among x rest) ≡ true → among x ys ≡ false
     go true p ih q = ap (λ (n : ℕ). among n ys) (eqb-true x a p) ∙ not-true (among a ys) (halves .0)
+    go false p ih q = ih q
+
+-- a test that passes at every entry of a list passes at each number that is one of them
+pub among-each : (ok : ℕ → Bool) (x : ℕ) (xs : List ℕ) → every ok xs ≡ true → among x xs ≡ true → ok x ≡ true
+unfolding among
+among-each ok x [] all e = clash (cc)
+among-each ok x (a ∷ rest) all e = go (eqb x a) refl (among-each ok x rest (halves .1)) e
+  where
+    halves : (ok a ≡ true) × (every ok rest ≡ true)
+    halves = both-true (ok a) (every ok rest) all
+
+    go : (t : Bool) → eqb x a ≡ t → (among x rest ≡ true → ok x ≡ true) → either t (among x rest) ≡ true → ok x ≡ true
+    go true p ih q = ap ok (eqb-true x a p) ∙ halves .0
     go false p ih q = ih q
 
 module _ {A B : Type 0} (key : A → ℕ) (value : A → B) (x : ℕ) where

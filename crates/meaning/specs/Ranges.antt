@@ -1,0 +1,167 @@
+-- The ranges of a card's numbers where its meaning is no refusal.
+-- Assumes nothing.
+use Prim.Native.Nat.{ℕ, _-_, _≤_, _<_}
+use native.Mathlib.Omega.{arith}
+use mathlib.Core.Path.{_≡_, refl}
+use mathlib.Core.Bool.{Bool, true, false, not}
+use mathlib.Core.Logic.{_⊎_, inl, inr}
+use lib.Dec.{ltb, eqb}
+use lib.IntN.{ℤ, pos, negsuc}
+use borrow.Author.Tests.{ltb-false, not-false}
+use Rattle.search.specs.Laws.{clash}
+use Rattle.search.specs.Places.{either}
+use Rattle.search.specs.PlaceLaws.{neither}
+use Rattle.exhibits.specs.declared.Toxic.{Toxic}
+use Rattle.exhibits.specs.declared.Toxic.the-variants.{NotListed}
+use Rattle.exhibits.specs.Exhibits.{toxicOf}
+use Rattle.exhibits.specs.Laws as exhibits
+use Rattle.dispersion.specs.declared.Ground.{Ground}
+use Rattle.dispersion.specs.declared.Ground.the-variants.{Rural, Urban}
+use Rattle.blast.specs.Blast.{isFlammable}
+use Rattle.blast.specs.Laws as blast
+use Rattle.release.specs.declared.Containment.{Containment}
+use Rattle.release.specs.declared.Containment.the-variants.{Open, Dike, Building}
+use Rattle.scenario.specs.declared.State.{State}
+use Rattle.scenario.specs.declared.State.the-variants.{Gas, Pressurized, Refrigerated, Liquid}
+use Rattle.fields.specs.declared.Fields.{Fields}
+use Rattle.refusals.specs.declared.Refusal.{Refusal}
+use Rattle.form.specs.declared.StateByte.the-variants as stateByte
+use Rattle.form.specs.declared.GroundByte.the-variants as groundByte
+use Rattle.form.specs.declared.Held.the-variants as held
+use Rattle.form.specs.declared.Standing.{Standing}
+use Rattle.form.specs.declared.Shape.{Shape}
+use Rattle.form.specs.declared.Shape.the-variants as shape
+use Rattle.form.specs.Form.{heldOf, shapeOf}
+use Rattle.form.specs.Inverse.{toxic-shape, flammable-shape}
+use Rattle.form.specs.Same.{stateIn, state-byte, groundIn, ground-byte, held-bytes, flammable-blank}
+use Rattle.meaning.specs.declared.Bounds.{Bounds}
+use Rattle.meaning.specs.declared.Meaning.{Meaning}
+use Rattle.meaning.specs.declared.Meaning.the-variants as meaning
+use Rattle.meaning.specs.Reading.{badNumber, badPounds, badArea, badWall, badHeat, signed, boundsIf, boundsOf, toxicBounded, isListed, meaningIf, toxicMeaning, flammableOf, shaped, meaningOf}
+
+pub record Ranged (f : Fields) : Type 0 where
+  pub kind : f .kind ≤ 2
+  pub state : f .state ≤ 4
+  pub ground : f .ground ≤ 2
+  pub containment : f .containment ≤ 2
+  pub cas : f .cas < 100_000_000
+  pub pounds : f .pounds ≤ 10_000_000
+  pub area : f .area ≤ 1_000_000
+  pub wall : f .wall ≤ 10_000
+  -- as the two bytes hold it: from 0 up, or below 0
+  pub heat : (f .heat ≤ 3_000) ⊎ (65_036 ≤ f .heat)
+
+-- ---- what the tests of 8 and 9 say of a number that they let pass
+
+pub pounds-within : (n : ℕ) → badPounds n ≡ false → n ≤ 10_000_000
+unfolding badPounds
+pounds-within n e = ltb-false 10_000_000 n (neither (eqb n 0) (ltb 10_000_000 n) e .1)
+
+wall-within : (n : ℕ) → badWall n ≡ false → n ≤ 10_000
+unfolding badWall
+wall-within n e = ltb-false 10_000 n e
+
+-- "-500 to 3,000"
+heat-within : (n : ℕ) → badHeat (signed n) ≡ false → (n ≤ 3_000) ⊎ (65_036 ≤ n)
+unfolding badHeat signed
+heat-within n e = go (ltb n 32_768) e
+  where
+    go : (t : Bool) → badHeat (elim t as (λ _. ℤ) [ true ↦ pos n | false ↦ negsuc (65_535 - n) ]) ≡ false → (n ≤ 3_000) ⊎ (65_036 ≤ n)
+    go true q = inl (ltb-false 3_000 n q)
+    go false q = inr (omega (arith, ltb-false 499 (65_535 - n) (neither (ltb 499 (65_535 - n)) false q .0)))
+
+area-within : (n : ℕ) → either (eqb n 0) (ltb 1_000_000 n) ≡ false → n ≤ 1_000_000
+area-within n e = ltb-false 1_000_000 n (neither (eqb n 0) (ltb 1_000_000 n) e .1)
+
+-- "zero if open"; else the area is in range
+held-within : (c : Containment) (b area wall : ℕ) → heldOf b area wall ≡ held.Is c → badArea b area ≡ false → (b ≤ 2) × (area ≤ 1_000_000)
+unfolding badArea
+held-within Open b area wall h e = omega (arith, held-bytes b area wall h)
+held-within (Dike d) b area wall h e = let k = held-bytes b area wall h .0 in (omega arith, area-within area (rw k at e))
+held-within (Building x) b area wall h e = let k = held-bytes b area wall h .0 in (omega arith, area-within area (rw k at e))
+
+-- ---- the codes
+
+state-within : (s : State) → stateIn (stateByte.Is s) ≤ 4
+state-within Gas = omega arith
+state-within Pressurized = omega arith
+state-within Refrigerated = omega arith
+state-within Liquid = omega arith
+
+ground-within : (g : Ground) → groundIn (groundByte.Is g) ≤ 2
+ground-within Rural = omega arith
+ground-within Urban = omega arith
+
+-- ---- a meaning that is no refusal
+
+abbrev Sound : Meaning → Type 0
+Sound m = (r : Refusal) → m ≡ meaning.Refused r → ⊥
+
+-- a check on the way to it lets the card pass
+passed : (b : Bool) (r : Refusal) (further : Meaning) → Sound (meaningIf b r further) → (b ≡ false) × Sound further
+passed true r further n = absurd (n r refl)
+passed false r further n = (refl, n)
+
+-- so does one of 8 and 9
+module _ (f : Fields) (entry : Toxic) (standing : Standing) where
+  within : (b : Bool) (r : Refusal) (further : Bounds) → Sound (toxicBounded (boundsIf b r further) f entry standing)
+      → (b ≡ false) × Sound (toxicBounded further f entry standing)
+  within true r further n = absurd (n r refl)
+  within false r further n = (refl, n)
+
+  -- all four of them
+  bounded : Sound (toxicBounded (boundsOf f) f entry standing)
+      → (badPounds (f .pounds) ≡ false) × (badArea (f .containment) (f .area) ≡ false) × (badWall (f .wall) ≡ false) × (badHeat (signed (f .heat)) ≡ false)
+  unfolding boundsOf
+  bounded n =
+      let p = within (badPounds (f .pounds)) _ _ n in
+      let a = within (badArea (f .containment) (f .area)) _ _ (p .1) in
+      let w = within (badWall (f .wall)) _ _ (a .1) in
+      let h = within (badHeat (signed (f .heat))) _ _ (w .1) in
+      (p .0, a .0, w .0, h .0)
+
+-- ---- the ranges
+
+-- what is listed is not missing
+listed : (t : Toxic) → isListed t ≡ true → t ≡ NotListed → ⊥
+listed t e n = let z : _≡_ {A = ℕ} 0 1 = cc in clash z
+
+-- by what the bytes 0 to 3 make
+shaped-ranged : (f : Fields) (s : Shape) → shapeOf f ≡ s → Sound (shaped s f) → Ranged f
+unfolding toxicMeaning flammableOf
+shaped-ranged f (shape.Toxic standing) p n =
+    let bytes = toxic-shape f p in
+    let entry = toxicOf (f .cas) in
+    let known = passed (not (isListed entry)) _ _ n in
+    let numbers = bounded f entry standing (known .1) in
+    let place = held-within (standing .containment) (f .containment) (f .area) (f .wall) (bytes .held) (numbers .1) in
+    record {
+      kind = omega (arith, bytes .kind);
+      state = omega (arith, state-byte (f .state) (bytes .state), state-within (standing .state));
+      ground = omega (arith, ground-byte (f .ground) (bytes .ground), ground-within (standing .ground));
+      containment = place .0;
+      cas = exhibits.listed-below (f .cas) (listed entry (not-false (isListed entry) (known .0)));
+      pounds = pounds-within (f .pounds) (numbers .0);
+      area = place .1;
+      wall = wall-within (f .wall) (numbers .2);
+      heat = heat-within (f .heat) (numbers .3);
+    }
+shaped-ranged f shape.Flammable p n =
+    let zeros = flammable-blank f p in
+    let known = passed (not (isFlammable (f .cas))) _ _ n in
+    record {
+      kind = omega (arith, flammable-shape f p);
+      state = omega arith;
+      ground = omega arith;
+      containment = omega arith;
+      cas = blast.listed-below (f .cas) (not-false (isFlammable (f .cas)) (known .0));
+      pounds = pounds-within (f .pounds) (passed (badPounds (f .pounds)) _ _ (known .1) .0);
+      area = omega arith;
+      wall = omega arith;
+      heat = inl (omega arith);
+    }
+shaped-ranged f (shape.Refused r) p n = absurd (n r refl)
+
+pub ranged : (f : Fields) (last : ℕ) → ((r : Refusal) → meaningOf f last ≡ meaning.Refused r → ⊥) → Ranged f
+unfolding meaningOf
+ranged f last n = shaped-ranged f (shapeOf f) refl (passed (badNumber (f .number) last) _ _ n .1)
