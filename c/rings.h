@@ -1,6 +1,7 @@
 /*
- * The ring register: worst-case distances of a register of cards, read from the tables of the EPA's guidance.
- * One call, proved in crates/rings_c; link target/staticlib/librings_c.a (written by `rt staticlib rings_c`).
+ * The ring register: worst-case distances of a register of cards, read from the tables of the EPA's guidance, and
+ * registers from comma lines and back. Three calls, proved in crates/rings_c; link target/staticlib/librings_c.a
+ * (written by `rt staticlib rings_c`).
  */
 #ifndef RINGS_H
 #define RINGS_H
@@ -17,9 +18,13 @@ extern "C" {
 #define RINGS_ANSWER_LEN 16                                                    /* bytes of a card's answer */
 #define RINGS_MAX_CARDS 2000                                                   /* cards of the longest register */
 #define RINGS_MAX_LEN (RINGS_HEADER_LEN + RINGS_MAX_CARDS * RINGS_CARD_LEN)    /* its bytes, 48,007 */
+#define RINGS_MAX_LINE 200                                                     /* bytes of a comma line, read */
+#define RINGS_MAX_STRICT_LINE 59                                               /* written, with its line feed */
+#define RINGS_MAX_STRICT_LEN (RINGS_MAX_CARDS * RINGS_MAX_STRICT_LINE)         /* bytes of the lines of any register */
 
 /*
- * Why a register is sent back. 1 to 4 mean no card, and their place is 0.
+ * Why a register or a text is sent back. 1 to 4 and 13 mean no card, and their place is 0; the place of 12 is the
+ * line's number, counted from 1.
  */
 enum rings_refusal {
     RINGS_LENGTH = 1,    /* under 7 bytes, or the length field is not register_len */
@@ -32,7 +37,9 @@ enum rings_refusal {
     RINGS_QUANTITY = 8,  /* pounds out of range */
     RINGS_RANGE = 9,     /* area, wall or temperature out of range */
     RINGS_MISMATCH = 10, /* state, substance and containment do not go together, or the exhibit has no data */
-    RINGS_BEYOND = 11    /* beyond the table */
+    RINGS_BEYOND = 11,   /* beyond the table */
+    RINGS_LINE = 12,     /* a line is not eleven well-formed fields, or has over 200 bytes */
+    RINGS_ROOM = 13      /* the buffer is too small for what has to be written, or there are over 2,000 lines */
 };
 
 /*
@@ -56,6 +63,48 @@ enum rings_refusal {
 uint64_t rings_answer(const uint8_t *register_ptr, size_t register_len,
                       uint8_t *answers_ptr, size_t answers_len,
                       uint64_t *toxic, uint64_t *flammable);
+
+/*
+ * Reads comma lines into a register of version 1.
+ *
+ * text_ptr       the text's first byte; it is only read. A line is a card: kind, state, ground, containment, CAS number
+ *                with hyphens, pounds, area, wall, temperature, card number and a remark that is dropped, with commas
+ *                between them; then a line feed, which the last line may do without. Spaces around a field and zeros
+ *                before a number are allowed. No bytes are no lines.
+ * text_len       its length in bytes; no length is too long or too short to be handed in.
+ * register_ptr   the first byte of the buffer for the register. Bytes behind the register are left alone.
+ * register_len   the buffer's length in bytes: 7 + 24 x lines, or more; RINGS_MAX_LEN is enough for any text.
+ * at             set in every case: to the register's length in bytes, or to the refusal's place.
+ *
+ * Returns 0 if the lines are read. The form of the lines is looked at and nothing else: whether the register is accepted
+ * is for rings_answer to say. A refusal is its number, RINGS_LINE or RINGS_ROOM, and changes no byte of the buffer.
+ * RINGS_LINE comes first, for any line, and its place is that of the first such line, counted from 1.
+ *
+ * No pointer may be null, not even with a length of 0. The buffer and the word overlap neither each other nor the text.
+ * None is kept after the call, which holds no state: threads may call at once, each with its own buffers.
+ */
+uint64_t rings_read_lines(const uint8_t *text_ptr, size_t text_len,
+                          uint8_t *register_ptr, size_t register_len,
+                          uint64_t *at);
+
+/*
+ * Writes an accepted register as comma lines in their one strict form: no spaces, no zeros before a number, an empty
+ * remark, a line feed behind every line. Read again they give the same register.
+ *
+ * register_ptr   the register's first byte; it is only read.
+ * register_len   its length in bytes; no length is too long or too short to be handed in.
+ * text_ptr       the first byte of the buffer for the text. Bytes behind the text are left alone.
+ * text_len       the buffer's length in bytes; RINGS_MAX_STRICT_LEN is enough for any register.
+ * at             set in every case: to the text's length in bytes, or to the refusal's place.
+ *
+ * Returns 0 if the lines are written. A refusal is its number and changes no byte of the buffer: first those that
+ * rings_answer gives for the register, but never RINGS_BUFFER, with the card's place, counted from 0; then RINGS_ROOM.
+ *
+ * For pointers, overlaps and threads the rules of rings_read_lines hold.
+ */
+uint64_t rings_write_lines(const uint8_t *register_ptr, size_t register_len,
+                           uint8_t *text_ptr, size_t text_len,
+                           uint64_t *at);
 
 #ifdef __cplusplus
 }

@@ -1,8 +1,29 @@
 #!/usr/bin/env bash
-# Compiles the C example against the proved archive and compares what it prints with the listing.
+# Compiles the C programs against the proved archive. What the example prints is compared with the listings, and the comma
+# lines of the examples are read into their registers and written from them.
 set -euo pipefail
 cd "$(dirname "$0")/.."
-gcc -std=c11 -Wall -Wextra -Werror -O2 -Ic c/example.c target/staticlib/librings_c.a -o target/c-example
+for program in example lines; do
+    gcc -std=c11 -Wall -Wextra -Werror -O2 -Ic "c/$program.c" target/staticlib/librings_c.a -o "target/c-$program"
+done
+
+# ends with the status that is expected, and nothing on standard output
+fails() {
+    local expected=$1 status=0
+    shift
+    "$@" >target/c-output 2>target/c-error || status=$?
+    test "$status" = "$expected"
+    test ! -s target/c-output
+}
+
+# is sent back with this refusal
+refused() {
+    local refusal=$1
+    shift
+    fails 1 "$@"
+    diff target/c-error <(echo "$refusal")
+}
+
 for register in examples/document-01 examples/empty; do
     target/c-example "$register.register" | diff - "$register.listing"
 done
@@ -12,3 +33,37 @@ target/c-example examples/refused.register >target/c-listing || status=$?
 test "$status" = 1
 diff target/c-listing examples/refused.listing
 echo "the C example prints the listings that are stored"
+
+# lines into the register, the register into lines in strict form, and those into the register again
+for register in examples/*.register; do
+    name=${register%.register}
+    target/c-lines read <"$name.lines" | cmp - "$register"
+    if [ "$name" = examples/refused ]; then
+        refused "$(cat "$name.listing")" target/c-lines write <"$register"
+        continue
+    fi
+    target/c-lines write <"$register" | cmp - "$name.strict"
+    target/c-lines read <"$name.strict" | cmp - "$register"
+done
+
+# the second line has one field too many; 2,000 lines are read, 2,001 are not, and a bad line behind them is found first
+line=$(head -n 1 examples/document-01.strict)
+copies() {
+    for ((i = 0; i < $1; i++)); do echo "$line"; done
+}
+refused "refused 12 at 2" target/c-lines read < <(copies 1 && echo "$line,")
+test "$(target/c-lines read < <(copies 2000) | wc -c)" = 48007
+refused "refused 13 at 0" target/c-lines read < <(copies 2001)
+refused "refused 12 at 2002" target/c-lines read < <(copies 2001 && echo)
+refused "refused 1 at 0" target/c-lines write </dev/null
+
+# errors are said, with status 2
+fails 2 target/c-lines read <examples
+test -s target/c-error
+fails 2 target/c-lines
+test -s target/c-error
+status=0
+target/c-lines read <examples/document-01.lines >/dev/full 2>target/c-error || status=$?
+test "$status" = 2
+test -s target/c-error
+echo "the C program reads and writes the comma lines of $(ls examples/*.register | wc -l) examples as stored"

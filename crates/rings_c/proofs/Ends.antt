@@ -8,9 +8,12 @@ use Rattle.card.specs.declared.Class.{Class}
 use Rattle.farthest.specs.declared.Farthest.{Farthest}
 use Rattle.farthest.specs.declared.Farthest.the-variants as farthest
 use Rattle.farthest.specs.declared.Leaders.{Leaders}
+use Rattle.comma.specs.declared.Converted.{Converted}
+use Rattle.comma.specs.declared.Converted.the-variants as converted
+use Rattle.refusals.specs.Numbers.{numberOf}
 use Rattle.walk.specs.declared.Outcome.{Outcome}
 use Rattle.walk.specs.declared.Outcome.the-variants as outcome
-use Rattle.rings_c.specs.Words.{wordOf, refusalCode, codeOf, leaderOf, wordAfter}
+use Rattle.rings_c.specs.Words.{wordOf, refusalCode, codeOf, leaderOf, wordAfter, conversionCode, conversionAt}
 
 pub none-word : (f : Farthest) → f ≡ farthest.None → 0 ≡ wordOf f
 unfolding wordOf
@@ -36,3 +39,29 @@ module _ (x y : Outcome) (e : x ≡ y) where
   pub refused-word : (c : Class) (r : Refusal) (place before : ℕ) → x ≡ outcome.Refused r place → before ≡ wordAfter c y before
   unfolding wordAfter
   refused-word c r place before q = ap (λ o. wordAfter c o before) (sym q ∙ e)
+
+-- ---- a conversion: the two cases, and the two words of a call
+
+module _ (x : Converted) where
+  pub bytes-code : (n : ℕ) → x ≡ converted.Bytes n → 0 ≡ conversionCode x
+  unfolding conversionCode
+  bytes-code n q = ap conversionCode (sym q)
+
+  pub refusal-code : (r : Refusal) (place n : ℕ) → x ≡ converted.Refused r place → n ≡ numberOf r → n ≡ conversionCode x
+  unfolding conversionCode
+  refusal-code r place n q g = g ∙ ap conversionCode (sym q)
+
+  pub bytes-at : (n : ℕ) → x ≡ converted.Bytes n → n ≡ conversionAt x
+  unfolding conversionAt
+  bytes-at n q = ap conversionAt (sym q)
+
+  pub refusal-at : (r : Refusal) (place : ℕ) → x ≡ converted.Refused r place → place ≡ conversionAt x
+  unfolding conversionAt
+  refusal-at r place q = ap conversionAt (sym q)
+
+module _ (x y : Converted) (e : x ≡ y) (n : ℕ) where
+  pub call-code : n ≡ conversionCode x → n ≡ conversionCode y
+  call-code g = g ∙ ap conversionCode e
+
+  pub call-at : n ≡ conversionAt x → n ≡ conversionAt y
+  call-at g = g ∙ ap conversionAt e

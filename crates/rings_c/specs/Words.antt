@@ -1,4 +1,4 @@
--- The words of the C interface: what a call returns, and what it leaves in the two words of the farthest cards.
+-- The words of the C interface: what a call returns, and what it leaves in the words beside its result.
 -- Assumes nothing.
 use Prim.Native.Nat.{ℕ, _+_, _*_}
 use Rattle.refusals.specs.declared.Refusal.{Refusal}
@@ -8,6 +8,8 @@ use Rattle.card.specs.declared.Class.the-variants as class
 use Rattle.farthest.specs.declared.Farthest.{Farthest}
 use Rattle.farthest.specs.declared.Farthest.the-variants as farthest
 use Rattle.farthest.specs.declared.Leaders.{Leaders}
+use Rattle.comma.specs.declared.Converted.{Converted}
+use Rattle.comma.specs.declared.Converted.the-variants as converted
 use Rattle.walk.specs.declared.Outcome.{Outcome}
 use Rattle.walk.specs.declared.Outcome.the-variants as outcome
 
@@ -34,3 +36,14 @@ leaderOf class.Flammable leaders = leaders .flammable
 unfoldable pub wordAfter : Class → Outcome → ℕ → ℕ
 wordAfter c (outcome.Accepted leaders) before = wordOf (leaderOf c leaders)
 wordAfter c (outcome.Refused r place) before = before
+
+-- What a call between a text and a register returns: 0, or the number of its refusal. The place stands in a word of its own,
+-- since a line's number need not fit thirty-two bits.
+unfoldable pub conversionCode : Converted → ℕ
+conversionCode (converted.Bytes n) = 0
+conversionCode (converted.Refused r place) = numberOf r
+
+-- that word, which is a part of the result and set in every case: how many bytes were written, or the place of the refusal
+unfoldable pub conversionAt : Converted → ℕ
+conversionAt (converted.Bytes n) = n
+conversionAt (converted.Refused r place) = place

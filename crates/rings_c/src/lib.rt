@@ -1,4 +1,6 @@
-// The register behind a C interface: one call, whose result and two farthest cards are words.
+// The register behind a C interface: one call that answers it, whose result and two farthest cards are words, and two that read
+// it from comma lines and write it as such, each with one word beside its result.
+use comma::Converted;
 use farthest::Farthest;
 use refusals::Refusal;
 use register::Outcome;
@@ -6,7 +8,9 @@ ghost use mathlib.Core.Path.{_≡_};
 ghost use lib.ListN.{length};
 ghost use Rattle.card.specs.declared.Class.the-variants.{Toxic, Flammable};
 ghost use Rattle.register.specs.Register.{outcomeOf, bufferOf};
-ghost use Rattle.rings_c.specs.Words.{wordOf, refusalCode, codeOf, wordAfter};
+ghost use Rattle.comma.specs.Text.{readingOf, readInto};
+ghost use Rattle.write_lines.specs.Writing.{writingOf, writeInto};
+ghost use Rattle.rings_c.specs.Words.{wordOf, refusalCode, codeOf, wordAfter, conversionCode, conversionAt};
 
 // A farthest card as a word: 0 for none, else its number above sixteen bits of hundredths of a mile.
 fn word_of(leader: Farthest) -> u64
@@ -54,4 +58,48 @@ pub extern "C" fn rings_answer(
         }
         Outcome::Refused(refusal, place) => code_of(refusal, place),
     }
+}
+
+// What a conversion returns: 0, or the number of its refusal.
+fn conversion_code(converted: Converted) -> u64
+    ensures { λ r. ⌜ r ≡ conversionCode converted ⌝ }
+{
+    match converted {
+        Converted::Bytes(_) => 0,
+        Converted::Refused(refusal, _) => refusals::number(refusal) as u64,
+    }
+}
+
+// The word beside it: how many bytes were written, or the place of the refusal.
+fn conversion_at(converted: Converted) -> u64
+    ensures { λ r. ⌜ r ≡ conversionAt converted ⌝ }
+{
+    match converted {
+        Converted::Bytes(size) => size as u64,
+        Converted::Refused(_, place) => place as u64,
+    }
+}
+
+// Reads comma lines into a lent register.
+#[no_mangle]
+pub extern "C" fn rings_read_lines(text: &[u8], register: &mut [u8], at: &mut u64) -> u64
+    ensures { λ r. ⌜ r ≡ conversionCode (readingOf (now (text .entry)) (length (now (register .entry)))) ⌝ }
+    ensures { λ _. ⌜ now (register .exit) ≡ readInto (now (text .entry)) (now (register .entry)) ⌝ }
+    ensures { λ _. ⌜ now (at .exit) ≡ conversionAt (readingOf (now (text .entry)) (length (now (register .entry)))) ⌝ }
+{
+    let converted = read_lines::read(text, register);
+    *at = conversion_at(converted);
+    conversion_code(converted)
+}
+
+// Writes a register as comma lines into a lent text.
+#[no_mangle]
+pub extern "C" fn rings_write_lines(register: &[u8], text: &mut [u8], at: &mut u64) -> u64
+    ensures { λ r. ⌜ r ≡ conversionCode (writingOf (now (register .entry)) (length (now (text .entry)))) ⌝ }
+    ensures { λ _. ⌜ now (text .exit) ≡ writeInto (now (register .entry)) (now (text .entry)) ⌝ }
+    ensures { λ _. ⌜ now (at .exit) ≡ conversionAt (writingOf (now (register .entry)) (length (now (text .entry)))) ⌝ }
+{
+    let converted = write_lines::write(register, text);
+    *at = conversion_at(converted);
+    conversion_code(converted)
 }
