@@ -11,11 +11,13 @@
 //! takes half a nanosecond a card at 2,000 cards, and not two at one. One buffer is lent for all answers of a size and
 //! not cleared between calls.
 
+mod timing;
+
 use rings_second::reference::{ANSWER_LEN, CARD_LEN, HEADER_LEN};
 use rings_second::samples::{accepted_register, Rng};
 use rings_second::{proved, reference};
 use std::hint::black_box;
-use std::time::Instant;
+use timing::{in_turn, PASSES};
 
 const SEED: u64 = 13;
 /// Cards in each register of a pass.
@@ -24,8 +26,6 @@ const SIZES: [usize; 5] = [1, 10, 100, 1_000, 2_000];
 const LEAST_REGISTERS: usize = 200;
 /// A pass has at least so many cards, or the branches of short registers would be learned after all.
 const LEAST_CARDS: usize = 200_000;
-/// Passes of each implementation over the registers of a size; odd, so that one of them is the median.
-const PASSES: usize = 41;
 
 /// Answers a register into a buffer; true if it was accepted.
 type Answer = fn(&[u8], &mut [u8]) -> bool;
@@ -77,26 +77,15 @@ fn measure(registers: &Registers) -> (f64, f64) {
     let proved: Answer = |register, out| proved::answer(register, out).is_ok();
     let reference: Answer = |register, out| reference::answer(register, out).is_ok();
     let mut buffer = vec![0; ANSWER_LEN * registers.cards];
-    let mut a_register = |answer| pass(registers, &mut buffer, answer) / registers.count() as f64;
-    // A first pass of each warms the machine up and is not counted.
-    a_register(proved);
-    a_register(reference);
-    let times = (0..PASSES).map(|_| (a_register(proved), a_register(reference)));
-    let (proved, reference) = times.unzip();
-    (median(proved), median(reference))
+    let (proved, reference) = in_turn(proved, reference, |answer| pass(registers, &mut buffer, answer));
+    let count = registers.count() as f64;
+    (proved / count, reference / count)
 }
 
-/// The nanoseconds of one call for each register.
-fn pass(registers: &Registers, buffer: &mut [u8], answer: Answer) -> f64 {
-    let start = Instant::now();
+/// One call for each register.
+fn pass(registers: &Registers, buffer: &mut [u8], answer: Answer) {
     for register in registers.each() {
         let accepted = answer(black_box(register), black_box(buffer));
         assert!(accepted, "all registers of a benchmark are accepted");
     }
-    start.elapsed().as_nanos() as f64
-}
-
-fn median(mut times: Vec<f64>) -> f64 {
-    times.sort_by(f64::total_cmp);
-    times[times.len() / 2]
 }

@@ -1,8 +1,8 @@
 //! A second, unproved implementation of the ring register, and a door to the proved one.
 //!
-//! - [`reference`] is written from document 01 alone, in safe Rust.
+//! - [`reference`] is written from documents 01 and 02 alone, in safe Rust.
 //! - [`proved`] calls the proved library through its C interface (feature `proved`).
-//! - [`samples`] makes registers for the comparison and the benchmark of the two.
+//! - [`samples`] makes registers and comma lines for the comparison and the benchmark of the two.
 
 #![deny(unsafe_code)]
 #![warn(missing_docs)]

@@ -12,6 +12,20 @@ mod c {
             toxic: *mut u64,
             flammable: *mut u64,
         ) -> u64;
+        pub fn rings_read_lines(
+            text_ptr: *const u8,
+            text_len: usize,
+            register_ptr: *mut u8,
+            register_len: usize,
+            at: *mut u64,
+        ) -> u64;
+        pub fn rings_write_lines(
+            register_ptr: *const u8,
+            register_len: usize,
+            text_ptr: *mut u8,
+            text_len: usize,
+            at: *mut u64,
+        ) -> u64;
     }
 }
 
@@ -28,14 +42,51 @@ pub fn answer(register: &[u8], out: &mut [u8]) -> Result<Accepted, Refused> {
 /// the farthest cards, left alone on refusal.
 #[allow(unsafe_code)]
 pub fn answer_words(register: &[u8], out: &mut [u8], toxic: &mut u64, flammable: &mut u64) -> u64 {
-    // SAFETY: each pointer comes from a live slice or reference of the length passed beside it, the three writable
-    // ones are borrowed mutably and so overlap with nothing, and the library keeps none of them after it returns.
+    // SAFETY: each pointer comes from a live slice or reference of the length passed beside it, the writable ones are
+    // borrowed mutably and so overlap with nothing, and the library keeps none of them after it returns.
     unsafe { c::rings_answer(register.as_ptr(), register.len(), out.as_mut_ptr(), out.len(), toxic, flammable) }
+}
+
+/// Reads comma lines into `register`, as [`crate::reference::read_lines`] does.
+pub fn read_lines(text: &[u8], register: &mut [u8]) -> Result<usize, Refused> {
+    let mut at = 0;
+    let code = read_lines_words(text, register, &mut at);
+    converted(code, at)
+}
+
+/// Writes a register as comma lines into `text`, as [`crate::reference::write_lines`] does.
+pub fn write_lines(register: &[u8], text: &mut [u8]) -> Result<usize, Refused> {
+    let mut at = 0;
+    let code = write_lines_words(register, text, &mut at);
+    converted(code, at)
+}
+
+/// The call as C sees it, for tests that look at its words: 0 or a refusal's number is returned, and the word is set to
+/// how many bytes were written or to the refusal's place.
+#[allow(unsafe_code)]
+pub fn read_lines_words(text: &[u8], register: &mut [u8], at: &mut u64) -> u64 {
+    // SAFETY: as in `answer_words`.
+    unsafe { c::rings_read_lines(text.as_ptr(), text.len(), register.as_mut_ptr(), register.len(), at) }
+}
+
+/// The call as C sees it, with the words of [`read_lines_words`].
+#[allow(unsafe_code)]
+pub fn write_lines_words(register: &[u8], text: &mut [u8], at: &mut u64) -> u64 {
+    // SAFETY: as in `answer_words`.
+    unsafe { c::rings_write_lines(register.as_ptr(), register.len(), text.as_mut_ptr(), text.len(), at) }
 }
 
 /// A refusal's word is its number × 2^32 + its place.
 fn refused(word: u64) -> Refused {
-    Refused { number: (word >> 32) as u8, place: word as u32 }
+    Refused { number: (word >> 32) as u8, place: word & 0xffff_ffff }
+}
+
+/// A conversion's two words: 0 and the bytes written, which a slice held, or a refusal's number and its place.
+fn converted(code: u64, at: u64) -> Result<usize, Refused> {
+    match code {
+        0 => Ok(at as usize),
+        number => Err(Refused { number: number as u8, place: at }),
+    }
 }
 
 /// A farthest card's word is 0 for none, else its number × 65,536 + hundredths of a mile.

@@ -1,14 +1,17 @@
-//! The second implementation: document 01 in plain safe Rust.
+//! The second implementation: document 01, and document 02 as far as it has landed, in plain safe Rust.
 //!
 //! Bytes become cards ([`card`]), a toxic card a release ([`release`]), and a release or a quantity a distance, read
-//! from the printed tables ([`printed`]).
+//! from the printed tables ([`printed`]). Comma lines become registers and registers comma lines ([`lines`]).
 
 mod card;
+mod lines;
 pub mod printed;
 mod release;
 #[cfg(test)]
 mod tests;
 mod units;
+
+pub use lines::{read_lines, write_lines, MAX_LINE, MAX_STRICT_LINE};
 
 use card::{Card, Meaning};
 use printed::Printed;
@@ -46,16 +49,16 @@ pub struct Farthest {
     pub miles: u16,
 }
 
-/// Why and where a register is sent back.
+/// Why and where a register or a text is sent back.
 #[derive(Debug, Clone, Copy, PartialEq, Eq)]
 pub struct Refused {
-    /// The number in document 01's table of refusals.
+    /// The number in document 01's table of refusals, or in a request of document 02.
     pub number: u8,
-    /// The card's place, counted from 0.
-    pub place: u32,
+    /// The card's place, counted from 0; for number 12 the line's, counted from 1.
+    pub place: u64,
 }
 
-/// The conditions of document 01's table of refusals, with their numbers.
+/// The conditions of document 01's table of refusals and of document 02, with their numbers.
 #[derive(Debug, Clone, Copy, PartialEq, Eq)]
 enum Fault {
     Length = 1,
@@ -69,15 +72,17 @@ enum Fault {
     Range = 9,
     Exhibit = 10,
     Table = 11,
+    Line = 12,
+    Room = 13,
 }
 
 impl Fault {
-    /// The refusal of the card at a place. A register has far fewer cards than `u32` can count.
-    fn at(self, place: usize) -> Refused {
-        Refused { number: self as u8, place: place as u32 }
+    /// The refusal of the card or the line at a place.
+    fn at(self, place: u64) -> Refused {
+        Refused { number: self as u8, place }
     }
 
-    /// The refusal of a whole register: no card is meant.
+    /// The refusal of a whole register or text: no card is meant.
     fn of_register(self) -> Refused {
         self.at(0)
     }
@@ -160,7 +165,7 @@ fn answers(cards: &[u8]) -> Result<Vec<Answer>, Refused> {
     let printed = printed::printed();
     let mut answers = Vec::with_capacity(cards.len() / CARD_LEN);
     let mut last_number = 0;
-    for (place, bytes) in cards.chunks_exact(CARD_LEN).enumerate() {
+    for (bytes, place) in cards.chunks_exact(CARD_LEN).zip(0..) {
         let card = Card::read(bytes, last_number, printed).map_err(|fault| fault.at(place))?;
         last_number = card.number;
         answers.push(answer_of(&card, printed).map_err(|fault| fault.at(place))?);

@@ -1,4 +1,6 @@
-//! Registers made from a seed, with quantities that fall on and around the edges of the printed tables.
+//! Registers made from a seed, with quantities that fall on and around the edges of the printed tables, and texts.
+
+pub mod lines;
 
 use crate::reference::printed::{printed, Factor, Phase, Plume, Toxic};
 use crate::reference::{self, ANSWER_LEN, CARD_LEN, HEADER_LEN};
@@ -14,6 +16,7 @@ pub const MAX_WALL: u16 = 10_000;
 const WITH_OWN_TABLE: [u32; 3] = [7_664_417, 7_782_505, 7_446_095];
 
 /// A generator of random numbers (splitmix64): small, and the same on every machine.
+#[derive(Default)]
 pub struct Rng(u64);
 
 impl Rng {

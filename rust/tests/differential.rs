@@ -1,19 +1,20 @@
 //! The proved library and the reference, compared on registers made from a fixed seed.
 //!
 //! Every byte of the lent buffer, of the bytes around it and of the two farthest words is compared, on acceptance and
-//! on refusal. Run with `cargo test --release --test differential -- --nocapture` to see the counts.
+//! on refusal. Then each register is written as comma lines, with the same care, and the lines of an accepted one are
+//! read back. Run with `cargo test --release --test differential -- --nocapture` to see the counts.
 
+mod lent;
+
+use lent::{hex, Lent, READ_LINES, WRITE_LINES};
 use rings_second::proved;
 use rings_second::reference::printed::{printed, Factor, Phase, Toxic};
-use rings_second::reference::{self, Farthest, Refused, ANSWER_LEN, HEADER_LEN, MAX_CARDS};
+use rings_second::reference::{self, Farthest, Refused, ANSWER_LEN, CARD_LEN, HEADER_LEN, MAX_CARDS, MAX_STRICT_LINE};
 use rings_second::samples::{self, Card, Rng, MAX_AREA, MAX_POUNDS, MAX_WALL};
 
 const SEED: u64 = 0x0155_0b99_0009;
 const RANDOM_REGISTERS: usize = 1_000_000;
 const LEAST_OF_EACH: usize = 1_000;
-
-/// Bytes kept on either side of a lent buffer, to catch a write outside it.
-const MARGIN: usize = 32;
 
 #[test]
 fn the_proved_library_and_the_reference_agree() {
@@ -48,59 +49,51 @@ fn the_typed_call_agrees_too() {
 /// Compares registers one by one and counts what it met.
 struct Comparison {
     rng: Rng,
-    ours: Vec<u8>,
-    theirs: Vec<u8>,
+    answers: Lent,
     accepted: usize,
     refused: [usize; 12],
     routes: [usize; 4],
     tables: [usize; 14],
+    lines: Lines,
 }
 
 impl Comparison {
     fn new(seed: u64) -> Self {
         Comparison {
             rng: Rng::new(seed),
-            ours: Vec::new(),
-            theirs: Vec::new(),
+            answers: Lent::default(),
             accepted: 0,
             refused: [0; 12],
             routes: [0; 4],
             tables: [0; 14],
+            lines: Lines::default(),
         }
     }
 
     /// Calls both with a buffer of a length, filled with the same random bytes, and panics where they differ.
     fn compare(&mut self, register: &[u8], buffer_len: usize) {
-        self.fill(buffer_len);
-        let lent = MARGIN..MARGIN + buffer_len;
+        self.answers.fill(&mut self.rng, buffer_len);
         let untouched = (self.rng.bits(), self.rng.bits());
 
-        let ours = reference::answer(register, &mut self.ours[lent.clone()]);
+        let ours = reference::answer(register, self.answers.ours());
         let expected = words(ours, untouched);
 
         let (mut toxic, mut flammable) = untouched;
-        let code = proved::answer_words(register, &mut self.theirs[lent.clone()], &mut toxic, &mut flammable);
+        let code = proved::answer_words(register, self.answers.theirs(), &mut toxic, &mut flammable);
         let met = (code, toxic, flammable);
 
-        if expected != met || self.ours != self.theirs {
-            let place = self.ours.iter().zip(&self.theirs).position(|(a, b)| a != b);
+        if expected != met || self.answers.difference().is_some() {
             panic!(
                 "they disagree on a buffer of {buffer_len} bytes and the register\n{}\n\
                  reference: {expected:x?} ({ours:?})\nproved:    {met:x?}\n\
                  first byte that differs (0 is the buffer's first): {:?}\n",
                 hex(register),
-                place.map(|place| place as i64 - MARGIN as i64),
+                self.answers.difference(),
             );
         }
         self.count(ours.err(), register.len());
-    }
-
-    fn fill(&mut self, buffer_len: usize) {
-        self.ours.clear();
-        while self.ours.len() < buffer_len + 2 * MARGIN {
-            self.ours.extend(self.rng.bits().to_ne_bytes());
-        }
-        self.theirs.clone_from(&self.ours);
+        let written = self.lines.compare(&mut self.rng, register);
+        assert!(written || ours.is_err(), "an accepted register was not written: {}", hex(register));
     }
 
     fn count(&mut self, refused: Option<Refused>, register_len: usize) {
@@ -108,8 +101,8 @@ impl Comparison {
             Some(Refused { number, .. }) => self.refused[usize::from(number)] += 1,
             None => {
                 self.accepted += 1;
-                let cards = (register_len - HEADER_LEN) / reference::CARD_LEN;
-                for answer in self.ours[MARGIN..].chunks_exact(ANSWER_LEN).take(cards) {
+                let cards = (register_len - HEADER_LEN) / CARD_LEN;
+                for answer in self.answers.ours().chunks_exact(ANSWER_LEN).take(cards) {
                     self.routes[usize::from(answer[4])] += 1;
                     self.tables[usize::from(answer[5])] += 1;
                 }
@@ -134,6 +127,82 @@ impl Comparison {
         for met in self.refused[1..].iter().chain(&self.routes[1..]).chain(&self.tables[1..]) {
             assert!(*met >= LEAST_OF_EACH, "a case was met too seldom");
         }
+        self.lines.report();
+    }
+}
+
+/// Compares registers as they are written in comma lines, and counts what it met.
+#[derive(Default)]
+struct Lines {
+    text: Lent,
+    read_back: Lent,
+    /// Room for the lines of any register.
+    scratch: Vec<u8>,
+    exact: usize,
+    longer: usize,
+    short_by_one: usize,
+    shorter: usize,
+    refused: [usize; 14],
+    round_trips: usize,
+}
+
+impl Lines {
+    /// An accepted register is written where there is room, read back, and written where there is too little; any other
+    /// is handed in with any room. Gives whether it was accepted.
+    fn compare(&mut self, rng: &mut Rng, register: &[u8]) -> bool {
+        self.scratch.resize(MAX_CARDS * MAX_STRICT_LINE, 0);
+        let Ok(length) = reference::write_lines(register, &mut self.scratch) else {
+            let room = *rng.pick(&[0, 1, 41, 100, 200]);
+            self.compare_writing(rng, register, room);
+            return false;
+        };
+        let longer = length + 1 + rng.below(40) as usize;
+        let room = *rng.pick(&[length, longer]);
+        self.exact += usize::from(room == length);
+        self.longer += usize::from(room > length);
+        self.compare_writing(rng, register, room);
+        self.compare_reading_back(rng, register, length);
+        if length > 0 && rng.one_in(4) {
+            let shorter = rng.below(length as u64) as usize;
+            let room = *rng.pick(&[length - 1, shorter]);
+            self.short_by_one += usize::from(room == length - 1);
+            self.shorter += usize::from(room < length - 1);
+            self.compare_writing(rng, register, room);
+        }
+        true
+    }
+
+    fn compare_writing(&mut self, rng: &mut Rng, register: &[u8], room: usize) {
+        if let Err(Refused { number, .. }) = self.text.compare(rng, &WRITE_LINES, register, room) {
+            self.refused[usize::from(number)] += 1;
+        }
+    }
+
+    /// The lines that the proved library has just written are read into the register they came from.
+    fn compare_reading_back(&mut self, rng: &mut Rng, register: &[u8], length: usize) {
+        let room = register.len() + *rng.pick(&[0, 0, 1, 24]);
+        let text = &self.text.theirs()[..length];
+        let read = self.read_back.compare(rng, &READ_LINES, text, room);
+        assert_eq!(read, Ok(register.len()), "the lines of the register {}", hex(register));
+        assert_eq!(&self.read_back.theirs()[..register.len()], register);
+        self.round_trips += 1;
+    }
+
+    fn report(&self) {
+        println!("{} registers written as comma lines and read back", self.round_trips);
+        let Lines { exact, longer, short_by_one, shorter, .. } = self;
+        println!("written into exact buffers: {exact}, into longer ones: {longer}");
+        println!("not written into buffers short by one: {short_by_one}, into shorter ones: {shorter}");
+        for (number, met) in self.refused.iter().enumerate() {
+            if *met > 0 {
+                println!("lines refused {number:2}: {met}");
+            }
+        }
+        assert_eq!(self.refused[4] + self.refused[12], 0, "the writer has neither an answer buffer nor a line to read");
+        let refused = self.refused.iter().zip(0..).filter(|(_, number)| ![0, 4, 12].contains(number));
+        for met in refused.map(|(met, _)| met).chain([exact, longer, short_by_one, shorter]) {
+            assert!(*met >= LEAST_OF_EACH, "a case of the writer was met too seldom");
+        }
     }
 }
 
@@ -142,12 +211,8 @@ fn words(result: Result<reference::Accepted, Refused>, untouched: (u64, u64)) ->
     let word = |farthest: Option<Farthest>| farthest.map_or(0, |f| u64::from(f.card) * 65_536 + u64::from(f.miles));
     match result {
         Ok(accepted) => (0, word(accepted.toxic), word(accepted.flammable)),
-        Err(Refused { number, place }) => ((u64::from(number) << 32) + u64::from(place), untouched.0, untouched.1),
+        Err(Refused { number, place }) => ((u64::from(number) << 32) + place, untouched.0, untouched.1),
     }
-}
-
-fn hex(bytes: &[u8]) -> String {
-    bytes.iter().map(|byte| format!("{byte:02x}")).collect()
 }
 
 // The sweeps: one card a register, each combination of codes.

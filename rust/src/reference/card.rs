@@ -78,21 +78,21 @@ impl<'p> Card<'p> {
 }
 
 /// The fields of a card as they stand.
-struct Fields {
-    kind: u8,
-    state: u8,
-    ground: u8,
-    containment: u8,
-    cas: u32,
-    pounds: u32,
-    area: u32,
-    wall: u16,
-    tenths: i16,
-    number: u32,
+pub struct Fields {
+    pub kind: u8,
+    pub state: u8,
+    pub ground: u8,
+    pub containment: u8,
+    pub cas: u32,
+    pub pounds: u32,
+    pub area: u32,
+    pub wall: u16,
+    pub tenths: i16,
+    pub number: u32,
 }
 
 impl Fields {
-    fn cut(bytes: &[u8]) -> Self {
+    pub fn cut(bytes: &[u8]) -> Self {
         let bytes: &[u8; CARD_LEN] = bytes.try_into().expect("a card has 24 bytes");
         let word = |at: usize| u32::from_be_bytes([bytes[at], bytes[at + 1], bytes[at + 2], bytes[at + 3]]);
         Fields {
@@ -107,6 +107,19 @@ impl Fields {
             tenths: i16::from_be_bytes([bytes[18], bytes[19]]),
             number: word(20),
         }
+    }
+
+    /// The card that [`Fields::cut`] takes apart into these.
+    pub fn bytes(&self) -> [u8; CARD_LEN] {
+        let mut bytes = [0; CARD_LEN];
+        bytes[..4].copy_from_slice(&[self.kind, self.state, self.ground, self.containment]);
+        bytes[4..8].copy_from_slice(&self.cas.to_be_bytes());
+        bytes[8..12].copy_from_slice(&self.pounds.to_be_bytes());
+        bytes[12..16].copy_from_slice(&self.area.to_be_bytes());
+        bytes[16..18].copy_from_slice(&self.wall.to_be_bytes());
+        bytes[18..20].copy_from_slice(&self.tenths.to_be_bytes());
+        bytes[20..].copy_from_slice(&self.number.to_be_bytes());
+        bytes
     }
 }
 

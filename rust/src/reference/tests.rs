@@ -57,12 +57,12 @@ fn line(card: Card) -> String {
 }
 
 /// The refusal of a register with a buffer that is long enough for any.
-fn refusal(bytes: &[u8]) -> Option<(u8, u32)> {
+fn refusal(bytes: &[u8]) -> Option<(u8, u64)> {
     let refused = answer(bytes, &mut [0; MAX_CARDS * ANSWER_LEN]).err();
     refused.map(|Refused { number, place }| (number, place))
 }
 
-fn refusal_of(card: Card) -> Option<(u8, u32)> {
+fn refusal_of(card: Card) -> Option<(u8, u64)> {
     refusal(&register(&[card]))
 }
 

@@ -1,0 +1,95 @@
+//! Every line of `tests/vectors`, whose README tells the form of the files.
+
+use crate::implementations::{Implementation, IMPLEMENTATIONS};
+use rings_second::reference::{Accepted, Farthest, Refused};
+use std::fs;
+use std::path::Path;
+
+/// The result of an implementation in the words of a file, from the input's bytes and the length of the buffer.
+type Answer = fn(&Implementation, &[u8], usize) -> String;
+
+/// The files, and what an implementation says to their lines.
+const FILES: [(&str, Answer); 3] = [
+    ("read.tsv", |by, text, room| converted(by.register_of(text, room))),
+    ("register.tsv", |by, register, room| answered(by.answers(register, room))),
+    ("write.tsv", |by, register, room| converted(by.lines_of(register, room))),
+];
+
+#[test]
+fn both_agree_with_every_line() {
+    let folder = Path::new(env!("CARGO_MANIFEST_DIR")).join("../tests/vectors");
+    assert_eq!(names_in(&folder), FILES.map(|(name, _)| name), "each file is compared");
+    let held: Vec<_> = IMPLEMENTATIONS.iter().map(|implementation| implementation.name).collect();
+    for (name, answer) in FILES {
+        let lines = compare(&folder.join(name), answer);
+        println!("{name}: {} agreed with all {lines} lines", held.join(" and "));
+        assert!(lines > 0, "{name} has no lines");
+    }
+}
+
+/// The files of a folder that have lines to compare, in the order of their names.
+fn names_in(folder: &Path) -> Vec<String> {
+    let entries = fs::read_dir(folder).expect("the folder of vectors");
+    let names = entries.map(|entry| entry.expect("a file of vectors").file_name().to_string_lossy().into_owned());
+    let mut names: Vec<_> = names.filter(|name| name.ends_with(".tsv")).collect();
+    names.sort();
+    names
+}
+
+/// Panics at the first line that an implementation disagrees with; gives how many lines there are.
+fn compare(file: &Path, answer: Answer) -> usize {
+    let text = fs::read_to_string(file).expect("a file of vectors");
+    for (line, number) in text.lines().zip(1..) {
+        let columns: Vec<_> = line.split('\t').collect();
+        let &[input, room, expected] = columns.as_slice() else {
+            panic!("{}, line {number}: not three columns", file.display());
+        };
+        let room = room.parse().expect("a length");
+        for implementation in IMPLEMENTATIONS {
+            let met = answer(implementation, &bytes(input), room);
+            assert_eq!(met, expected, "{}, line {number}: {}", file.display(), implementation.name);
+        }
+    }
+    text.lines().count()
+}
+
+fn answered(result: Result<(Vec<u8>, Accepted), Refused>) -> String {
+    match result {
+        Ok((bytes, Accepted { toxic, flammable })) => {
+            format!("ok {} {} {}", hex(&bytes), farthest(toxic), farthest(flammable))
+        }
+        Err(refused) => refusal(refused),
+    }
+}
+
+fn converted(result: Result<Vec<u8>, Refused>) -> String {
+    match result {
+        Ok(bytes) => format!("ok {}", hex(&bytes)),
+        Err(refused) => refusal(refused),
+    }
+}
+
+fn refusal(Refused { number, place }: Refused) -> String {
+    format!("refused {number} {place}")
+}
+
+fn farthest(farthest: Option<Farthest>) -> String {
+    match farthest {
+        Some(Farthest { card, miles }) => format!("{card}:{miles}"),
+        None => "none".to_string(),
+    }
+}
+
+fn hex(bytes: &[u8]) -> String {
+    match bytes {
+        [] => "-".to_string(),
+        _ => bytes.iter().map(|byte| format!("{byte:02x}")).collect(),
+    }
+}
+
+fn bytes(hex: &str) -> Vec<u8> {
+    let digits = if hex == "-" { "" } else { hex };
+    assert!(digits.len().is_multiple_of(2), "half a byte in {hex}");
+    let byte = |place| u8::from_str_radix(&digits[place..place + 2], 16).expect("hexadecimal digits");
+    (0..digits.len()).step_by(2).map(byte).collect()
+}
