@@ -1,5 +1,6 @@
 -- Request A1, in its words: what reading and writing comma lines makes of texts and registers, over the two calls. The theorems
--- are `round-trip`, `same-forms`, `same-bytes` and `strict-again` of `Texts`, and `longest` and `reached` of `Longest`.
+-- are `read-alike`, `round-trip`, `same-forms`, `same-bytes` and `strict-again` of `Texts`, and `longest` and `reached` of
+-- `Longest`.
 -- Assumes nothing.
 use Prim.Native.Nat.{ℕ, _*_, _≤_}
 use mathlib.Core.Path.{_≡_}
@@ -21,13 +22,25 @@ use Rattle.write_lines.specs.Writing.{fieldsOfRegister, strictText, writingOf, 
 abbrev pub Accepted : List ℕ → Type 0
 Accepted register = (buffer : List ℕ) × (leaders : Leaders) × Accepts register buffer leaders
 
--- "a reader into a lent version 1 register": with every lent buffer that is long enough the reader writes this register's bytes
--- and says how many they are; "bytes of a lent buffer behind what is written stay"
+-- "a reader into a lent version 1 register": with some lent buffer the reader says how many bytes it wrote, and they are this
+-- register's
+pub record Reads (text register : List ℕ) : Type 0 where
+  pub out : List ℕ
+  pub size : ℕ
+  pub told : readingOf text (length out) ≡ converted.Bytes size
+  pub bytes : take size (readInto text out) ≡ register
+
+-- With every lent buffer that is long enough the reader writes this register's bytes and says how many they are; "bytes of a
+-- lent buffer behind what is written stay".
 abbrev pub ReadsInto : List ℕ → List ℕ → Type 0
 ReadsInto text register =
     (out : List ℕ) → length register ≤ length out
     → (readingOf text (length out) ≡ converted.Bytes (length register))
     × (readInto text out ≡ register ++ drop (length register) out)
+
+-- What one buffer shows holds with every buffer that is long enough.
+abbrev pub ReadAlike : Type 0
+ReadAlike = (text register : List ℕ) → Reads text register → ReadsInto text register
 
 -- "Reading what was written gives the same register": whatever number of bytes the writer says that it wrote into a lent buffer,
 -- those bytes read into the register; and it does write where the strict text has room.
@@ -58,7 +71,7 @@ meaningsOf register = meaningsFrom 0 (fieldsOfRegister register)
 -- "two texts of accepted registers have equal strict forms exactly when they mean the same cards"
 abbrev pub SameForms : Type 0
 SameForms =
-    (s t first second : List ℕ) → ReadsInto s first → ReadsInto t second → Accepted first → Accepted second
+    (s t first second : List ℕ) → Reads s first → Reads t second → Accepted first → Accepted second
     → (strictText first ≡ strictText second) ↔ (meaningsOf first ≡ meaningsOf second)
 
 -- For accepted registers equal meanings are equal bytes.
@@ -70,7 +83,7 @@ SameBytes =
 -- "one strict way of writing lines": the strict text of what a strict text reads into is that text again.
 abbrev pub StrictAgain : Type 0
 StrictAgain =
-    (register again : List ℕ) → AllBytes register → Accepted register → ReadsInto (strictText register) again
+    (register again : List ℕ) → AllBytes register → Accepted register → Reads (strictText register) again
     → strictText again ≡ strictText register
 
 -- No strict line of an accepted register is longer than 59 bytes with its line feed. So "the output buffer is too small" never

@@ -15,10 +15,15 @@ use Rattle.comma.specs.declared.Converted.the-variants as converted
 use Rattle.comma.specs.Strict.{strictLines}
 use Rattle.comma.specs.StrictLaws.{text-written, cards-same, strict-same}
 use Rattle.write_lines.specs.Writing.{fieldsOfRegister, strictText, answerAs, writingOf, writtenAs, writeInto}
-use Rattle.texts.specs.Claim.{Accepted, RoundTrip, meaningsOf, SameForms, SameBytes, StrictAgain}
+use Rattle.texts.specs.Claim.{Accepted, ReadAlike, RoundTrip, meaningsOf, SameForms, SameBytes, StrictAgain}
 use Rattle.texts.specs.Accepted.{taken, all-mean}
 use Rattle.texts.specs.Meanings.{same-cards}
 use Rattle.texts.specs.Told.{Told, told-accepted, Read, bytes-are, read-is, reads-into}
+
+-- ---- "a reader into a lent version 1 register"
+
+pub read-alike : ReadAlike
+read-alike text register r = reads-into text register (read-is text register r)
 
 -- ---- "Reading what was written gives the same register"
 

@@ -5,10 +5,10 @@ use Prim.Native.Nat.{ℕ, _≤_}
 use native.Mathlib.Omega.{arith}
 use mathlib.Core.Path.{_≡_, refl, sym, ap, subst, _∙_}
 use mathlib.Core.Bool.{Bool, true, false}
-use mathlib.Core.List.{List, _++_, append-nil}
+use mathlib.Core.List.{List, _++_}
 use lib.Dec.{ltb}
-use lib.ListN.{length, drop}
-use lib.Seq.{drop-length}
+use lib.ListN.{length, take, drop}
+use lib.Seq.{take-append-seam}
 use borrow.Author.Tests.{ltb-false, le-ltb}
 use Rattle.search.specs.Laws.{clash}
 use Rattle.search.specs.PlaceLaws.{neither}
@@ -22,7 +22,7 @@ use Rattle.comma.specs.Strict.{fieldsFrom}
 use Rattle.comma.specs.StrictLaws.{AllFitting, text-fitting}
 use Rattle.comma.specs.CardLaws.{AllBytes, drop-bytes, from-length, from-fitting, register-length, register-read, register-back, register-count}
 use Rattle.write_lines.specs.Writing.{fieldsOfRegister}
-use Rattle.texts.specs.Claim.{Accepted, ReadsInto}
+use Rattle.texts.specs.Claim.{Accepted, Reads, ReadsInto}
 use Rattle.texts.specs.Accepted.{headed}
 
 pub record Told (register : List ℕ) : Type 0 where
@@ -69,28 +69,27 @@ room-enough count room few h = rw (le-ltb 2_000 count few, le-ltb room (sizeOf c
 pub bytes-are : {m n : ℕ} → converted.Bytes m ≡ converted.Bytes n → m ≡ n
 bytes-are e = cc
 
--- by what the text comes to, with a buffer of just the register's length
-read-from : (text register : List ℕ) (c : Cards) → cardsIn text ≡ c → readAs c (length register) ≡ converted.Bytes (length register)
-    → filledWith c register ≡ register ++ drop (length register) register → Read text register
-read-from text register (bad k) p a w = clash (cc)
-read-from text register (cards xs) p a w = go (badRoom (length xs) (length register)) refl a w
+-- by what the text comes to
+read-from : (text register out : List ℕ) (n : ℕ) (c : Cards) → cardsIn text ≡ c → readAs c (length out) ≡ converted.Bytes n
+    → take n (filledWith c out) ≡ register → Read text register
+read-from text register out n (bad k) p a w = clash (cc)
+read-from text register out n (cards xs) p a w = go (badRoom (length xs) (length out)) refl a w
   where
-    go : (b : Bool) → badRoom (length xs) (length register) ≡ b
-        → (elim b as (λ _. Converted) [ true ↦ converted.Refused refusal.Room 0 | false ↦ converted.Bytes (sizeOf (length xs)) ]) ≡ converted.Bytes (length register)
-        → (elim b as (λ _. List ℕ) [ true ↦ register | false ↦ registerOf xs ++ drop (sizeOf (length xs)) register ]) ≡ register ++ drop (length register) register
+    go : (b : Bool) → badRoom (length xs) (length out) ≡ b
+        → (elim b as (λ _. Converted) [ true ↦ converted.Refused refusal.Room 0 | false ↦ converted.Bytes (sizeOf (length xs)) ]) ≡ converted.Bytes n
+        → take n (elim b as (λ _. List ℕ) [ true ↦ out | false ↦ registerOf xs ++ drop (sizeOf (length xs)) out ]) ≡ register
         → Read text register
     go true q a w = clash (cc)
     go false q a w =
-        let size : sizeOf (length xs) ≡ length register = bytes-are a in
-        let whole : registerOf xs ≡ register = simp (size, drop-length, append-nil) at w in
-        let t = of-cards xs register (text-fitting text p) (room-few (length xs) (length register) q) whole in
+        let size : length (registerOf xs) ≡ n = register-length xs ∙ bytes-are a in
+        let front : take n (registerOf xs ++ drop (sizeOf (length xs)) out) ≡ registerOf xs =
+        rw (← size) (take-append-seam (registerOf xs) (drop (sizeOf (length xs)) out)) in
+        let t = of-cards xs register (text-fitting text p) (room-few (length xs) (length out) q) (sym front ∙ w) in
         record { same = p ∙ ap cards (sym (t .0)); told = t .1 }
 
-pub read-is : (text register : List ℕ) → ReadsInto text register → Read text register
+pub read-is : (text register : List ℕ) → Reads text register → Read text register
 unfolding readingOf readInto
-read-is text register r =
-    let own = r register (omega arith) in
-    read-from text register (cardsIn text) refl (own .0) (own .1)
+read-is text register r = read-from text register (r .out) (r .size) (cardsIn text) refl (r .told) (r .bytes)
 
 -- ---- a text with the cards of such a register reads into it
 
