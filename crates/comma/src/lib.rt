@@ -55,12 +55,10 @@ pub enum AmountsRead {
 // "A line is at most 200 bytes"
 const LONGEST: usize = 200;
 
-// What fits one, two and four bytes.
+// What fits one byte, and two.
 const ONE_BYTE: u32 = 255;
 
 const TWO_BYTES: u32 = 65_535;
-
-const FOUR_BYTES: u32 = 4_294_967_295;
 
 // The number of the field that starts at a place. A comma has to end it, since a number is never the last field.
 fn take_field(line: &[u8], at: usize, form: Form) -> Taken
@@ -114,11 +112,11 @@ fn amounts_at(line: &[u8], at: usize) -> AmountsRead
     let Taken::Is(cas, at1) = first else {
         return AmountsRead::Malformed;
     };
-    let second = take_field(line, at1, Form::Decimal(FOUR_BYTES));
+    let second = take_field(line, at1, Form::Decimal(numerals::FOUR_BYTES));
     let Taken::Is(pounds, at2) = second else {
         return AmountsRead::Malformed;
     };
-    let third = take_field(line, at2, Form::Decimal(FOUR_BYTES));
+    let third = take_field(line, at2, Form::Decimal(numerals::FOUR_BYTES));
     let Taken::Is(area, at3) = third else {
         return AmountsRead::Malformed;
     };
@@ -137,7 +135,7 @@ fn lasts_at(line: &[u8], at: usize, codes: Codes, amounts: Amounts) -> Line
     let Taken::Is(heat, at2) = second else {
         return Line::Malformed;
     };
-    let third = take_field(line, at2, Form::Decimal(FOUR_BYTES));
+    let third = take_field(line, at2, Form::Decimal(numerals::FOUR_BYTES));
     let Taken::Is(number, at3) = third else {
         return Line::Malformed;
     };

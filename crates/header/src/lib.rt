@@ -3,6 +3,12 @@ use refusals::Refusal;
 ghost use mathlib.Core.Path.{_≡_};
 ghost use Rattle.header.specs.Header.{badLength, badVersion, badCount, badBuffer, headerOf, headerRefusal, HeaderFits};
 
+// The most cards of a register.
+pub const MOST_CARDS: usize = 2_000;
+
+// An answer buffer for that many, so that no register is refused for the buffer.
+pub const ENOUGH: usize = 32_000;
+
 // How many cards a register has, or why it is sent back before its first card.
 pub enum Header {
     Good(usize),
@@ -29,7 +35,7 @@ fn bad_count(register: &[u8]) -> bool
     ensures { λ r. ⌜ r ≡ badCount (now (register .entry)) ⌝ }
 {
     let count = buffer::two(register, 5) as usize;
-    if 2000 < count {
+    if MOST_CARDS < count {
         return true;
     }
     register.len() != 7 + 24 * count

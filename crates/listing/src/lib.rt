@@ -22,9 +22,6 @@ pub enum Listed {
 // The longest register that can be accepted: the header and 2,000 cards.
 const LONGEST: usize = 48_007;
 
-// An answer buffer for 2,000 cards, so that no register is refused for the buffer.
-const ENOUGH: usize = 32_000;
-
 // A buffer in which every listing has room: 128 bytes for a card's line, and 256 for the leaders.
 const ROOM: usize = 256_256;
 
@@ -69,7 +66,7 @@ fn put_accepted(register: &[u8], out: &mut [u8], leaders: Leaders) -> usize
     ensures { λ r. ⌜ Wrote (now (out .entry)) (now (out .exit)) 0 r (listedAfter (headerOf (now (register .entry)) enough) (now (register .entry))) ⌝ }
     ensures { λ r. ⌜ r ≤ listingRoom ⌝ }
 {
-    let header = header::header_of(register, ENOUGH);
+    let header = header::header_of(register, header::ENOUGH);
     let Header::Good(count) = header else {
         return 0;
     };
@@ -83,7 +80,7 @@ fn put_listing(register: &[u8], out: &mut [u8]) -> usize
     ensures { λ r. ⌜ Wrote (now (out .entry)) (now (out .exit)) 0 r (listedAfter (headerOf (now (register .entry)) enough) (now (register .entry))) ⌝ }
     ensures { λ r. ⌜ r ≤ listingRoom ⌝ }
 {
-    let outcome = register::outcome_of(register, ENOUGH);
+    let outcome = register::outcome_of(register, header::ENOUGH);
     match outcome {
         Outcome::Accepted(leaders) => put_accepted(register, out, leaders),
         Outcome::Refused(refusal, place) => {

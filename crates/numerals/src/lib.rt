@@ -18,7 +18,7 @@ pub enum Number {
 }
 
 // The largest number of four bytes.
-const FOUR_BYTES: u32 = 4_294_967_295;
+pub const FOUR_BYTES: u32 = 4_294_967_295;
 
 // Where a field starts, behind the spaces in front.
 fn start_of(field: &[u8]) -> usize

@@ -18,9 +18,6 @@ pub enum Lines {
     Bad(usize),
 }
 
-// The most cards of a register.
-const MOST_CARDS: usize = 2_000;
-
 // Where the line that starts at a place ends: at its line feed, or at the end of the text.
 fn line_end(text: &[u8], at: usize) -> usize
     requires { ⌜ at < length (now text) ⌝ }
@@ -141,7 +138,7 @@ pub fn read(text: &[u8], out: &mut [u8]) -> Converted
     let Lines::Good(count) = lines else {
         return Converted::Refused(Refusal::Line, bad_line(lines));
     };
-    if MOST_CARDS < count {
+    if header::MOST_CARDS < count {
         return Converted::Refused(Refusal::Room, 0);
     }
     let size = 7 + 24 * count;

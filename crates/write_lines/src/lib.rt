@@ -11,9 +11,6 @@ ghost use Rattle.buffer.specs.Wrote.{Wrote};
 ghost use Rattle.write_lines.specs.Writing.{answerAs, writtenAs, writingOf, writeInto};
 ghost use Rattle.write_lines.specs.Walk.{lineAt, linesTo, accepted};
 
-// An answer buffer for 2,000 cards, so that no register is refused for the buffer.
-const ENOUGH: usize = 32_000;
-
 // The line of the card at a place, at the start of a buffer of the writer's own; how long it is.
 fn line_at(cards: &[u8], place: usize, line: &mut [u8]) -> usize
     requires { ⌜ (place < 2000) × (24 * place + 24 ≤ length (now cards)) × (256 ≤ length (now line)) ⌝ }
@@ -75,7 +72,7 @@ pub fn write(register: &[u8], out: &mut [u8]) -> Converted
     ensures { λ r. ⌜ r ≡ writingOf (now (register .entry)) (length (now (out .entry))) ⌝ }
     ensures { λ r. ⌜ now (out .exit) ≡ writeInto (now (register .entry)) (now (out .entry)) ⌝ }
 {
-    let outcome = register::outcome_of(register, ENOUGH);
+    let outcome = register::outcome_of(register, header::ENOUGH);
     match outcome {
         Outcome::Accepted(_) => {
             let count = buffer::two(register, 5) as usize;
