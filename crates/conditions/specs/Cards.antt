@@ -6,7 +6,8 @@ use mathlib.Core.Path.{_≡_, _∙_, refl, sym, ap, ap₂}
 use mathlib.Core.Bool.{Bool, true, false, not}
 use mathlib.Core.List.{List, [], _∷_}
 use lib.Dec.{eqb, ltb}
-use borrow.Author.Tests.{eqb-true}
+use lib.ListN.{drop}
+use borrow.Author.Tests.{eqb-true, not-false}
 use Rattle.search.specs.Rising.{both}
 use Rattle.search.specs.Laws.{clash, both-true}
 use Rattle.search.specs.Places.{either, among}
@@ -35,8 +36,8 @@ use Rattle.form.specs.declared.Held.the-variants as held
 use Rattle.form.specs.declared.Standing.{Standing}
 use Rattle.form.specs.declared.Shape.{Shape}
 use Rattle.form.specs.declared.Shape.the-variants as shape
-use Rattle.meaning.specs.declared.Bounds.the-variants as bounds
-use Rattle.meaning.specs.declared.Meaning.the-variants as meaning
+use Rattle.meaning.specs.declared.Bounds.{Bounds}
+use Rattle.meaning.specs.declared.Meaning.{Meaning}
 use Rattle.form.specs.Form.{stateOf, groundOf, heldOf, heatFits, shapedHeat, shapedHeld, shapedState, shapedBlank, shapeOf, blank}
 use Rattle.meaning.specs.Reading.{badNumber, badPounds, badArea, badWall, badHeat, signed, boundsIf, boundsOf, toxicBounded, isListed, meaningIf, toxicMeaning, flammableOf, shaped, meaningOf}
 use Rattle.form.specs.Inverse.{Stands, toxic-shape, flammable-shape}
@@ -56,13 +57,32 @@ abbrev pub verdictOf : Answered → Verdict
 verdictOf (answered.Is a) = passed
 verdictOf (answered.Refused r) = refused r
 
--- 6 to 11 in turn
-abbrev inTurn : Bool → Bool → Bool → Bool → Bool → Bool → Verdict
-inTurn form cas quantity range mismatch far =
-    pick form refusal.Form
-    (pick cas refusal.Unlisted
-    (pick quantity refusal.Quantity
-    (pick range refusal.Range (pick mismatch refusal.Mismatch (pick far refusal.Beyond passed)))))
+-- what 7 to 11 come to, where the form is sound
+abbrev behindForm : List ℕ → Verdict
+behindForm card = firstOf (drop 2 (ofCard card 0))
+
+-- ---- a check is a line of the table: where the same test decides both, and what comes behind them is the same
+
+-- a check of a meaning
+meaning-line : (n : ℕ) (b : Bool) (r : Refusal) (further : Meaning) {v : Verdict} → (b ≡ false → verdictOf (answerFor further n) ≡ v) → verdictOf (answerFor (meaningIf b r further) n) ≡ pick b r v
+meaning-line n true r further h = refl
+meaning-line n false r further h = h refl
+
+-- a check of a toxic card's ranges
+bounds-line : (n : ℕ) (f : Fields) (x : Toxic) (standing : Standing) (b : Bool) (r : Refusal) (further : Bounds) {v : Verdict} → verdictOf (answerFor (toxicBounded further f x standing) n) ≡ v → verdictOf (answerFor (toxicBounded (boundsIf b r further) f x standing) n) ≡ pick b r v
+bounds-line n f x standing true r further h = refl
+bounds-line n f x standing false r further h = h
+
+-- three tests with one refusal are one line
+one-line : (a b c : Bool) (r : Refusal) (v : Verdict) → pick a r (pick b r (pick c r v)) ≡ pick (anyOf (a ∷ b ∷ c ∷ [])) r v
+one-line true b c r v = refl
+one-line false true c r v = refl
+one-line false false true r v = refl
+one-line false false false r v = refl
+
+-- a line whose test fails is passed over
+unmet : (b : Bool) (r : Refusal) {v w : Verdict} → b ≡ false → v ≡ w → v ≡ pick b r w
+unmet b r {v} {w} e h = h ∙ ap (λ t. pick t r w) (sym e)
 
 -- a form is refused for its form
 heat-refused : (b : Bool) (s : Standing) {r : Refusal} → shapedHeat b s ≡ shape.Refused r → refusal.Form ≡ r
@@ -127,34 +147,34 @@ listed-is card = go (toxicOf (fieldsOf card .cas)) (seen (fieldsOf card .cas))
 
 -- ---- a toxic card
 
-module _ (n : ℕ) where
-  plan-verdict : (p : Planned) (card : ToxicCard) → verdictOf (plannedAnswer p n card) ≡ pick (isMismatch p) refusal.Mismatch (pick (beyondPlan p (card .ground)) refusal.Beyond passed)
-  plan-verdict (planned.Planned s) card =
-      go (readingOf (s .table) (card .ground) (s .rate .0) (s .endpoint))
-      ∙ ap (λ t. pick t refusal.Beyond passed) (sym (reading-beyond (card .ground) (s .rate .0) (s .endpoint) (s .table)))
-    where
-      go : (x : Reading) → verdictOf (readToxic x n s) ≡ pick (isBeyond x) refusal.Beyond passed
-      go (reading.Distance d) = refl
-      go reading.Beyond = refl
-  plan-verdict planned.Mismatch card = refl
+plan-verdict : (n : ℕ) (p : Planned) (card : ToxicCard) → verdictOf (plannedAnswer p n card) ≡ pick (isMismatch p) refusal.Mismatch (pick (beyondPlan p (card .ground)) refusal.Beyond passed)
+plan-verdict n (planned.Planned s) card =
+    go (readingOf (s .table) (card .ground) (s .rate .0) (s .endpoint))
+    ∙ ap (λ t. pick t refusal.Beyond passed) (sym (reading-beyond (card .ground) (s .rate .0) (s .endpoint) (s .table)))
+  where
+    go : (x : Reading) → verdictOf (readToxic x n s) ≡ pick (isBeyond x) refusal.Beyond passed
+    go (reading.Distance d) = refl
+    go reading.Beyond = refl
+plan-verdict n planned.Mismatch card = refl
 
-  module _ (f : Fields) (standing : Standing) where
-    toxic-turn : (listed b c d e : Bool) (M : Bool) → (listed ≡ true → M ≡ isMismatch (planOf (cardFrom f standing))) → verdictOf (answerFor (meaningIf (not listed) refusal.Unlisted (toxicBounded (boundsIf b refusal.Quantity (boundsIf c refusal.Range (boundsIf d refusal.Range (boundsIf e refusal.Range (bounds.Within (signed (f .heat))))))) f (toxicOf (f .cas)) standing)) n) ≡ inTurn false (not listed) b (either c (either d (either e false))) M (beyondPlan (planOf (cardFrom f standing)) (standing .ground))
-    toxic-turn false b c d e M h = refl
-    toxic-turn true true c d e M h = refl
-    toxic-turn true false true d e M h = refl
-    toxic-turn true false false true e M h = refl
-    toxic-turn true false false false true M h = refl
-    toxic-turn true false false false false M h =
-        plan-verdict (planOf (cardFrom f standing)) (cardFrom f standing)
-        ∙ ap (λ t. pick t refusal.Mismatch (pick (beyondPlan (planOf (cardFrom f standing)) (standing .ground)) refusal.Beyond passed)) (sym (h refl))
-
-toxic-verdict : (card : List ℕ) (n : ℕ) (standing : Standing) → shapeOf (fieldsOf card) ≡ shape.Toxic standing → verdictOf (answerFor (toxicMeaning (toxicOf (fieldsOf card .cas)) (fieldsOf card) standing) n) ≡ inTurn false (badCas card) (badPounds (fieldsOf card .pounds)) (badRange card) (mismatched card) (beyondPlan (planOf (cardFrom (fieldsOf card) standing)) (standing .ground))
-unfolding toxicMeaning boundsOf badRange fieldsOf
+toxic-verdict : (card : List ℕ) (n : ℕ) (standing : Standing) → shapeOf (fieldsOf card) ≡ shape.Toxic standing → verdictOf (answerFor (toxicMeaning (toxicOf (fieldsOf card .cas)) (fieldsOf card) standing) n) ≡ behindForm card
+unfolding toxicMeaning boundsOf badRange fieldsOf ofCard firstOf
 toxic-verdict card n standing e =
-    toxic-turn n (fieldsOf card) standing (isListed (toxicOf (fieldsOf card .cas))) (badPounds (fieldsOf card .pounds)) (badArea (fieldsOf card .containment) (fieldsOf card .area)) (badWall (fieldsOf card .wall)) (badHeat (signed (fieldsOf card .heat))) (mismatched card) (mismatch-is card standing (toxic-shape (fieldsOf card) e))
-    ∙ ap (λ t. inTurn false t (badPounds (fieldsOf card .pounds)) (badRange card) (mismatched card) (beyondPlan (planOf (cardFrom (fieldsOf card) standing)) (standing .ground)))
-    (sym (cas-toxic card (toxic-shape (fieldsOf card) e .kind) ∙ ap not (listed-is card)))
+    let f : Fields = fieldsOf card in
+    let x : Toxic = toxicOf (f .cas) in
+    let made : ToxicCard = cardFrom f standing in
+    let from = toxic-shape f e in
+    let known : badCas card ≡ not (isListed x) = cas-toxic card (from .kind) ∙ ap not (listed-is card) in
+    rw known
+    (meaning-line n (not (isListed x)) _ _
+    (λ l.
+    bounds-line n f x standing (badPounds (f .pounds)) _ _
+    (bounds-line n f x standing (badArea (f .containment) (f .area)) _ _
+    (bounds-line n f x standing (badWall (f .wall)) _ _
+    (bounds-line n f x standing (badHeat (signed (f .heat))) _ _
+    (plan-verdict n (planOf made) made
+    ∙ ap₂ (λ m b. pick m refusal.Mismatch (pick b refusal.Beyond passed)) (sym (mismatch-is card standing from (not-false (isListed x) l))) (sym (beyond-toxic card standing from)))))
+    ∙ one-line (badArea (f .containment) (f .area)) (badWall (f .wall)) (badHeat (signed (f .heat))) _ _)))
 
 -- ---- a flammable card
 
@@ -219,49 +239,39 @@ mismatch-blank card b =
     ap (λ s. either (both (ofGas card) (eqb s 4)) (either (both (ofLiquid card) (among s (1 ∷ 2 ∷ 3 ∷ []))) (either (both (eqb (byteAt card 3) 1) (among s (1 ∷ 2 ∷ []))) (either (both (eqb s 4) (both (not (aboveFifty card)) (withoutData (cellRead card)))) false)))) (b .state)
     ∙ none-stands (ofGas card) (ofLiquid card) (eqb (byteAt card 3) 1) (both (not (aboveFifty card)) (withoutData (cellRead card)))
 
-module _ (f : Fields) (n : ℕ) where
-  flammable-turn : (listed b : Bool) (M R B : Bool) → R ≡ false → M ≡ false → (listed ≡ true → B ≡ isBeyond (blastReading (f .cas) (f .pounds))) → verdictOf (answerFor (meaningIf (not listed) refusal.Unlisted (meaningIf b refusal.Quantity (meaning.Flammable (record { cas = f .cas; quantity = record { 0 = f .pounds } })))) n) ≡ inTurn false (not listed) b R M B
-  flammable-turn false b M R B p q h = refl
-  flammable-turn true true M R B p q h = refl
-  flammable-turn true false M R B p q h =
-      go (blastReading (f .cas) (f .pounds))
-      ∙ (ap (λ t. pick t refusal.Beyond passed) (sym (h refl))
-      ∙ ap₂ (λ r m. pick r refusal.Range (pick m refusal.Mismatch (pick B refusal.Beyond passed))) (sym p) (sym q))
-    where
-      go : (x : Reading) → verdictOf (readFlammable x n) ≡ pick (isBeyond x) refusal.Beyond passed
-      go (reading.Distance d) = refl
-      go reading.Beyond = refl
-
-flammable-verdict : (card : List ℕ) (n : ℕ) → shapeOf (fieldsOf card) ≡ shape.Flammable → verdictOf (answerFor (flammableOf (fieldsOf card)) n) ≡ inTurn false (badCas card) (badPounds (fieldsOf card .pounds)) (badRange card) (mismatched card) (ltb 2_000_000 (fieldsOf card .pounds))
-unfolding flammableOf fieldsOf ofTable13 isFlammable
+flammable-verdict : (card : List ℕ) (n : ℕ) → shapeOf (fieldsOf card) ≡ shape.Flammable → verdictOf (answerFor (flammableOf (fieldsOf card)) n) ≡ behindForm card
+unfolding flammableOf fieldsOf ofTable13 isFlammable ofCard firstOf
 flammable-verdict card n e =
-    let b = is-blank (fieldsOf card) (blank-shape (fieldsOf card) e) in
-    flammable-turn (fieldsOf card) n (isFlammable (fieldsOf card .cas)) (badPounds (fieldsOf card .pounds)) (mismatched card) (badRange card) (ltb 2_000_000 (fieldsOf card .pounds)) (range-blank card b) (mismatch-blank card b) (blast-beyond (fieldsOf card .cas) (fieldsOf card .pounds))
-    ∙ ap (λ t. inTurn false t (badPounds (fieldsOf card .pounds)) (badRange card) (mismatched card) (ltb 2_000_000 (fieldsOf card .pounds)))
-    (sym (cas-flammable card (flammable-shape (fieldsOf card) e)))
+    let f : Fields = fieldsOf card in
+    let kind = flammable-shape f e in
+    let b = is-blank f (blank-shape f e) in
+    rw (cas-flammable card kind)
+    (meaning-line n (not (isFlammable (f .cas))) _ _
+    (λ l.
+    meaning-line n (badPounds (f .pounds)) _ _
+    (λ _.
+    unmet (badRange card) refusal.Range (range-blank card b)
+    (unmet (mismatched card) refusal.Mismatch (mismatch-blank card b)
+    (go (blastReading (f .cas) (f .pounds))
+    ∙ ap (λ t. pick t refusal.Beyond passed) (sym (beyond-flammable card kind ∙ blast-beyond (f .cas) (f .pounds) (not-false (isFlammable (f .cas)) l))))))))
+  where
+    go : (x : Reading) → verdictOf (readFlammable x n) ≡ pick (isBeyond x) refusal.Beyond passed
+    go (reading.Distance d) = refl
+    go reading.Beyond = refl
 
 -- ---- any card
 
 -- where the form is refused, what comes behind it does not count
-shape-verdict : (card : List ℕ) (n : ℕ) (s : Shape) → shapeOf (fieldsOf card) ≡ s → verdictOf (answerFor (shaped s (fieldsOf card)) n) ≡ inTurn (isRefused s) (badCas card) (badPounds (fieldsOf card .pounds)) (badRange card) (mismatched card) (beyond card)
-unfolding fieldsOf
-shape-verdict card n (shape.Toxic standing) e =
-    toxic-verdict card n standing e
-    ∙ ap (inTurn false (badCas card) (badPounds (fieldsOf card .pounds)) (badRange card) (mismatched card))
-    (sym (beyond-toxic card standing (toxic-shape (fieldsOf card) e)))
-shape-verdict card n shape.Flammable e =
-    flammable-verdict card n e
-    ∙ ap (inTurn false (badCas card) (badPounds (fieldsOf card .pounds)) (badRange card) (mismatched card))
-    (sym (beyond-flammable card (flammable-shape (fieldsOf card) e)))
+shape-verdict : (card : List ℕ) (n : ℕ) (s : Shape) → shapeOf (fieldsOf card) ≡ s → verdictOf (answerFor (shaped s (fieldsOf card)) n) ≡ pick (isRefused s) refusal.Form (behindForm card)
+shape-verdict card n (shape.Toxic standing) e = toxic-verdict card n standing e
+shape-verdict card n shape.Flammable e = flammable-verdict card n e
 shape-verdict card n (shape.Refused r) e = ap refused (sym (form-refused (fieldsOf card) e))
-
-number-verdict : (card : List ℕ) (n : ℕ) (b : Bool) → verdictOf (answerFor (meaningIf b refusal.Number (shaped (shapeOf (fieldsOf card)) (fieldsOf card))) n) ≡ pick b refusal.Number (inTurn (badForm card) (badCas card) (badPounds (fieldsOf card .pounds)) (badRange card) (mismatched card) (beyond card))
-number-verdict card n true = refl
-number-verdict card n false =
-    shape-verdict card n (shapeOf (fieldsOf card)) refl
-    ∙ ap (λ t. inTurn t (badCas card) (badPounds (fieldsOf card .pounds)) (badRange card) (mismatched card) (beyond card)) (sym (form-is card))
 
 -- a card is refused by the first of its conditions that holds, and answered where none does
 pub card-verdict : (card : List ℕ) (last : ℕ) → verdictOf (answerOf card last) ≡ firstOf (ofCard card last)
 unfolding answerOf meaningOf ofCard firstOf
-card-verdict card last = number-verdict card (fieldsOf card .number) (badNumber (fieldsOf card .number) last)
+card-verdict card last =
+    meaning-line (fieldsOf card .number) (badNumber (fieldsOf card .number) last) _ _
+    (λ _.
+    shape-verdict card (fieldsOf card .number) (shapeOf (fieldsOf card)) refl
+    ∙ ap (λ t. pick t refusal.Form (behindForm card)) (sym (form-is card)))

@@ -7,11 +7,11 @@ use mathlib.Core.Bool.{Bool, true, false, not}
 use mathlib.Core.List.{List, [], _∷_, map}
 use mathlib.Core.Logic.{_⊎_, inl, inr, ⊎-elim}
 use lib.Dec.{eqb, ltb}
-use lib.ListN.{length, getD}
+use lib.ListN.{length, getD, drop}
 use borrow.Author.Tests.{eqb-true, eq-eqb, ltb-true, lt-ltb}
 use Rattle.search.specs.Rising.{both}
 use Rattle.search.specs.Laws.{clash, both-true}
-use Rattle.search.specs.Places.{either}
+use Rattle.search.specs.Places.{either, every}
 use Rattle.search.specs.PlaceLaws.{every-at}
 use Rattle.refusals.specs.declared.Refusal.{Refusal}
 use Rattle.refusals.specs.declared.Refusal.the-variants as refusal
@@ -200,14 +200,11 @@ three-too register e =
     either-true (ltb 2_000 (countOf register)) (not (eqb (length register) (7 + 24 * countOf register)))
     (inl (lt-ltb 2_000 (countOf register) (omega (arith, ltb-true 32_000 (16 * countOf register) e))))
 
--- none of the lines below 4's has its number
-abbrev below : List ℕ
-below = 5 ∷ 6 ∷ 7 ∷ 8 ∷ 9 ∷ 10 ∷ 11 ∷ 13 ∷ []
-
-none-below : (l : ℕ) → getD below l 0 ≡ 4 → ⊥
-none-below l n =
-    let t = every-at (λ k. not (eqb k 4)) below 0 refl refl l in
-    let u = eq-eqb (getD below l 0) 4 n in
+-- none of some numbers is 4
+none-four : (numbers : List ℕ) → every (λ k. not (eqb k 4)) numbers ≡ true → (l : ℕ) → getD numbers l 0 ≡ 4 → ⊥
+none-four numbers e l n =
+    let t = every-at (λ k. not (eqb k 4)) numbers 0 e refl l in
+    let u = eq-eqb (getD numbers l 0) 4 n in
     clash (cc)
 
 pub never-four : NeverFour
@@ -224,4 +221,5 @@ never-four register room place e = go (x .line) (number-at (writingAt register r
     go (suc (suc (suc zero))) n h a =
         let p = both-true (eqb place 0) (badBuffer register enough) h in
         a 2 (omega arith) (ap₂ both (p .0) (three-too register (p .1)))
-    go (suc (suc (suc (suc l)))) n h a = none-below l n
+    -- the lines below 4's have other numbers
+    go (suc (suc (suc (suc l)))) n h a = none-four (drop 4 (map numberIn (writingAt register room place))) refl l n
