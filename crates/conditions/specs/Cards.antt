@@ -1,4 +1,4 @@
--- What a card comes to is the first of the conditions 5 to 11 that holds.
+-- What a card comes to is the first of its conditions that holds.
 -- Assumes nothing.
 use Prim.Native.Nat.{ℕ}
 use native.Mathlib.Omega.{arith}
@@ -44,7 +44,7 @@ use Rattle.form.specs.Inverse.{Stands, toxic-shape, flammable-shape}
 use Rattle.card.specs.declared.Answered.{Answered}
 use Rattle.card.specs.declared.Answered.the-variants as answered
 use Rattle.card.specs.Answers.{readToxic, plannedAnswer, readFlammable, answerFor, answerOf}
-use Rattle.conditions.specs.Conditions.{anyOf, ofGas, ofLiquid, ofTable13, badForm, badCas, badRange, aboveFifty, cellRead, withoutData, mismatched, toxicCard, groundIn, beyondPlan, beyond, ofCard}
+use Rattle.conditions.specs.Conditions.{anyOf, ofGas, ofLiquid, ofTable13, badForm, badCas, aboveFifty, cellRead, withoutData, mismatched, toxicCard, groundIn, beyondPlan, beyond, ofCard}
 use Rattle.conditions.specs.First.{Verdict, passed, refused, pick, firstOf}
 use Rattle.conditions.specs.Form.{either-last, isRefused, form-is}
 use Rattle.conditions.specs.Substances.{Seen, a-gas, a-liquid, neither, seen}
@@ -57,7 +57,7 @@ abbrev pub verdictOf : Answered → Verdict
 verdictOf (answered.Is a) = passed
 verdictOf (answered.Refused r) = refused r
 
--- what 7 to 11 come to, where the form is sound
+-- what the lines behind 6 come to, where the form is sound
 abbrev behindForm : List ℕ → Verdict
 behindForm card = firstOf (drop 2 (ofCard card 0))
 
@@ -72,13 +72,6 @@ meaning-line n false r further h = h refl
 bounds-line : (n : ℕ) (f : Fields) (x : Toxic) (standing : Standing) (b : Bool) (r : Refusal) (further : Bounds) {v : Verdict} → verdictOf (answerFor (toxicBounded further f x standing) n) ≡ v → verdictOf (answerFor (toxicBounded (boundsIf b r further) f x standing) n) ≡ pick b r v
 bounds-line n f x standing true r further h = refl
 bounds-line n f x standing false r further h = h
-
--- three tests with one refusal are one line
-one-line : (a b c : Bool) (r : Refusal) (v : Verdict) → pick a r (pick b r (pick c r v)) ≡ pick (anyOf (a ∷ b ∷ c ∷ [])) r v
-one-line true b c r v = refl
-one-line false true c r v = refl
-one-line false false true r v = refl
-one-line false false false r v = refl
 
 -- a line whose test fails is passed over
 unmet : (b : Bool) (r : Refusal) {v w : Verdict} → b ≡ false → v ≡ w → v ≡ pick b r w
@@ -158,7 +151,7 @@ plan-verdict n (planned.Planned s) card =
 plan-verdict n planned.Mismatch card = refl
 
 toxic-verdict : (card : List ℕ) (n : ℕ) (standing : Standing) → shapeOf (fieldsOf card) ≡ shape.Toxic standing → verdictOf (answerFor (toxicMeaning (toxicOf (fieldsOf card .cas)) (fieldsOf card) standing) n) ≡ behindForm card
-unfolding toxicMeaning boundsOf badRange fieldsOf ofCard firstOf
+unfolding toxicMeaning boundsOf fieldsOf ofCard firstOf
 toxic-verdict card n standing e =
     let f : Fields = fieldsOf card in
     let x : Toxic = toxicOf (f .cas) in
@@ -173,8 +166,7 @@ toxic-verdict card n standing e =
     (bounds-line n f x standing (badWall (f .wall)) _ _
     (bounds-line n f x standing (badHeat (signed (f .heat))) _ _
     (plan-verdict n (planOf made) made
-    ∙ ap₂ (λ m b. pick m refusal.Mismatch (pick b refusal.Beyond passed)) (sym (mismatch-is card standing from (not-false (isListed x) l))) (sym (beyond-toxic card standing from)))))
-    ∙ one-line (badArea (f .containment) (f .area)) (badWall (f .wall)) (badHeat (signed (f .heat))) _ _)))
+    ∙ ap₂ (λ m b. pick m refusal.Mismatch (pick b refusal.Beyond passed)) (sym (mismatch-is card standing from (not-false (isListed x) l))) (sym (beyond-toxic card standing from))))))))
 
 -- ---- a flammable card
 
@@ -214,14 +206,17 @@ is-blank f e =
     }
 
 -- nothing of it is out of range, and no state of its mismatches
-none-of-three : (a b c : Bool) → a ≡ false → b ≡ false → c ≡ false → anyOf (a ∷ b ∷ c ∷ []) ≡ false
-none-of-three a b c p q r = ap₂ either p (ap₂ either q (ap (λ t. either t false) r))
+area-blank : (card : List ℕ) → Blank (fieldsOf card) → badArea (byteAt card 3) (fieldsOf card .area) ≡ false
+unfolding badArea fieldsOf
+area-blank card b = ap (λ c. badArea c (fieldsOf card .area)) (b .containment)
 
-range-blank : (card : List ℕ) → Blank (fieldsOf card) → badRange card ≡ false
-unfolding badRange fieldsOf badArea badWall badHeat signed
-range-blank card b =
-    none-of-three (badArea (byteAt card 3) (fieldsOf card .area)) (badWall (fieldsOf card .wall)) (badHeat (signed (fieldsOf card .heat)))
-    (ap (λ c. badArea c (fieldsOf card .area)) (b .containment)) (ap badWall (b .wall)) (ap (λ h. badHeat (signed h)) (b .heat))
+wall-blank : (card : List ℕ) → Blank (fieldsOf card) → badWall (fieldsOf card .wall) ≡ false
+unfolding badWall
+wall-blank card b = ap badWall (b .wall)
+
+heat-blank : (card : List ℕ) → Blank (fieldsOf card) → badHeat (signed (fieldsOf card .heat)) ≡ false
+unfolding badHeat signed
+heat-blank card b = ap (λ h. badHeat (signed h)) (b .heat)
 
 none-stands : (g l d x : Bool) → either (both g false) (either (both l false) (either (both d false) (either (both false x) false))) ≡ false
 none-stands true true true x = refl
@@ -250,10 +245,12 @@ flammable-verdict card n e =
     (λ l.
     meaning-line n (badPounds (f .pounds)) _ _
     (λ _.
-    unmet (badRange card) refusal.Range (range-blank card b)
+    unmet (badArea (byteAt card 3) (f .area)) refusal.Area (area-blank card b)
+    (unmet (badWall (f .wall)) refusal.Wall (wall-blank card b)
+    (unmet (badHeat (signed (f .heat))) refusal.Temperature (heat-blank card b)
     (unmet (mismatched card) refusal.Mismatch (mismatch-blank card b)
     (go (blastReading (f .cas) (f .pounds))
-    ∙ ap (λ t. pick t refusal.Beyond passed) (sym (beyond-flammable card kind ∙ blast-beyond (f .cas) (f .pounds) (not-false (isFlammable (f .cas)) l))))))))
+    ∙ ap (λ t. pick t refusal.Beyond passed) (sym (beyond-flammable card kind ∙ blast-beyond (f .cas) (f .pounds) (not-false (isFlammable (f .cas)) l))))))))))
   where
     go : (x : Reading) → verdictOf (readFlammable x n) ≡ pick (isBeyond x) refusal.Beyond passed
     go (reading.Distance d) = refl

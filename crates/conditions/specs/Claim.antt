@@ -35,7 +35,7 @@ ExactlyBy table Refused Accepted =
     ((r : Refusal) (place : ℕ) → Refused r place ↔ First table r place)
     × (Accepted ↔ ((place line : ℕ) → Holds table line place → ⊥))
 
--- Demand 1 of the register call. 1 to 4 stand above 5 to 11 and at place 0 alone, so they come before every card.
+-- Demand 1 of the register call. 1 to 4 stand above a card's conditions and at place 0 alone, so they come before every card.
 abbrev pub RefusedExactly : Type 0
 RefusedExactly =
     (bytes : List ℕ) (room : ℕ)
@@ -47,7 +47,7 @@ RefusedExactly =
 abbrev pub numberIn : Condition → ℕ
 numberIn (condition r b) = numberOf r
 
--- the lines stand in the order of their numbers, so that a line above has a lower number
-pub numbered : (bytes : List ℕ) (room place : ℕ) → map numberIn (conditionsAt bytes room place) ≡ 1 ∷ 2 ∷ 3 ∷ 4 ∷ 5 ∷ 6 ∷ 7 ∷ 8 ∷ 9 ∷ 10 ∷ 11 ∷ []
+-- The lines stand in the order of document 01's numbers, with 14 and 15 "where 9 was", behind it and above 10.
+pub numbered : (bytes : List ℕ) (room place : ℕ) → map numberIn (conditionsAt bytes room place) ≡ 1 ∷ 2 ∷ 3 ∷ 4 ∷ 5 ∷ 6 ∷ 7 ∷ 8 ∷ 9 ∷ 14 ∷ 15 ∷ 10 ∷ 11 ∷ []
 unfolding conditionsAt only ofRegister ofCard
 numbered bytes room place = refl

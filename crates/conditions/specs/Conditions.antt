@@ -109,16 +109,6 @@ badCas card =
     (both (toxic card) (not (either (ofGas card) (ofLiquid card))))
     (both (flammable card) (not (ofTable13 card)))
 
--- 9: "area, wall or temperature out of range"
-unfoldable pub badRange : List ℕ → Bool
-badRange card =
-    anyOf (
-    badArea (byteAt card 3) (fieldsOf card .area)
-    ∷ badWall (fieldsOf card .wall)
-    ∷ badHeat (signed (fieldsOf card .heat))
-    ∷ []
-    )
-
 -- the column of Exhibit B-4 that a temperature reads: "the closest column of B-4, the higher at a midpoint; 25 °C counts as a
 -- column .., and lower temperatures read it"
 abbrev pub columnRead : ℤ → ℕ
@@ -240,14 +230,17 @@ ofRegister bytes room =
     ∷ condition refusal.Buffer (badBuffer bytes room)
     ∷ []
 
--- 5 to 11, of a card and the number of the card before it
+-- 5 to 11, 14 and 15, of a card and the number of the card before it. Document 02, A2: 9 "becomes area only; area, wall and
+-- temperature are checked in that order, where 9 was".
 unfoldable pub ofCard : List ℕ → ℕ → List Condition
 ofCard card last =
     condition refusal.Number (badNumber (fieldsOf card .number) last)
     ∷ condition refusal.Form (badForm card)
     ∷ condition refusal.Unlisted (badCas card)
     ∷ condition refusal.Quantity (badPounds (fieldsOf card .pounds))
-    ∷ condition refusal.Range (badRange card)
+    ∷ condition refusal.Area (badArea (byteAt card 3) (fieldsOf card .area))
+    ∷ condition refusal.Wall (badWall (fieldsOf card .wall))
+    ∷ condition refusal.Temperature (badHeat (signed (fieldsOf card .heat)))
     ∷ condition refusal.Mismatch (mismatched card)
     ∷ condition refusal.Beyond (beyond card)
     ∷ []
@@ -262,7 +255,7 @@ abbrev pub numberBefore : List ℕ → ℕ → ℕ
 numberBefore bytes zero = 0
 numberBefore bytes (suc place) = fieldsOf (cardAt bytes place) .number
 
--- The table at a place: "the card's place, counted from 0 (0 for 1 to 4 ..)", and 5 to 11 where there is a card.
+-- The table at a place: "the card's place, counted from 0 (0 for 1 to 4 ..)", and a card's conditions where there is one.
 unfoldable pub conditionsAt : List ℕ → ℕ → ℕ → List Condition
 conditionsAt bytes room place =
     only (eqb place 0) (ofRegister bytes room)

@@ -34,12 +34,12 @@ WrittenExactly =
     (λ r place. writingOf register room ≡ converted.Refused r place)
     ((n : ℕ) × (writingOf register room ≡ converted.Bytes n))
 
--- the lines of both tables stand in the order of their numbers
+-- the lines of both tables stand in this order
 pub lines-numbered : (text : List ℕ) (room place : ℕ) → map numberIn (linesAt text room place) ≡ 12 ∷ 13 ∷ []
 unfolding linesAt roomAt only
 lines-numbered text room place = refl
 
-pub writing-numbered : (register : List ℕ) (room place : ℕ) → map numberIn (writingAt register room place) ≡ 1 ∷ 2 ∷ 3 ∷ 4 ∷ 5 ∷ 6 ∷ 7 ∷ 8 ∷ 9 ∷ 10 ∷ 11 ∷ 13 ∷ []
+pub writing-numbered : (register : List ℕ) (room place : ℕ) → map numberIn (writingAt register room place) ≡ 1 ∷ 2 ∷ 3 ∷ 4 ∷ 5 ∷ 6 ∷ 7 ∷ 8 ∷ 9 ∷ 14 ∷ 15 ∷ 10 ∷ 11 ∷ 13 ∷ []
 unfolding writingAt roomAt conditionsAt only ofRegister ofCard
 writing-numbered register room place = refl
 

@@ -99,20 +99,20 @@ pub heat-high : (t : ℤ) (r : Bool) → ltZ t (negsuc 499) ≡ false → ltZ (p
 unfolding badHeat
 heat-high t r e q = simp e (sym q)
 
--- 8 and 9 in turn
+-- 8, 9, 14 and 15 in turn
 module _ (f : Fields) where
   pub bounds-pounds : (b : Bool) → b ≡ badPounds (f .pounds) → b ≡ true → bounds.Refused refusal.Quantity ≡ boundsOf f
   unfolding boundsOf
   bounds-pounds b e q = let p : badPounds (f .pounds) ≡ true = sym e ∙ q in simp p
 
-  pub bounds-area : (b d : Bool) → b ≡ badPounds (f .pounds) → b ≡ false → d ≡ badArea (f .containment) (f .area) → d ≡ true → bounds.Refused refusal.Range ≡ boundsOf f
+  pub bounds-area : (b d : Bool) → b ≡ badPounds (f .pounds) → b ≡ false → d ≡ badArea (f .containment) (f .area) → d ≡ true → bounds.Refused refusal.Area ≡ boundsOf f
   unfolding boundsOf
   bounds-area b d e q g r =
       let p : badPounds (f .pounds) ≡ false = sym e ∙ q in
       let s : badArea (f .containment) (f .area) ≡ true = sym g ∙ r in
       simp (p, s)
 
-  pub bounds-wall : (b d : Bool) → b ≡ badPounds (f .pounds) → b ≡ false → d ≡ badArea (f .containment) (f .area) → d ≡ false → 10_000 < f .wall → bounds.Refused refusal.Range ≡ boundsOf f
+  pub bounds-wall : (b d : Bool) → b ≡ badPounds (f .pounds) → b ≡ false → d ≡ badArea (f .containment) (f .area) → d ≡ false → 10_000 < f .wall → bounds.Refused refusal.Wall ≡ boundsOf f
   unfolding boundsOf badWall
   bounds-wall b d e q g r w =
       let p : badPounds (f .pounds) ≡ false = sym e ∙ q in
@@ -120,7 +120,7 @@ module _ (f : Fields) where
       let u : badWall (f .wall) ≡ true = lt-ltb 10_000 (f .wall) w in
       simp (p, s, u)
 
-  bounds-heat : (b d k : Bool) (t : ℤ) → b ≡ badPounds (f .pounds) → b ≡ false → d ≡ badArea (f .containment) (f .area) → d ≡ false → f .wall ≤ 10_000 → t ≡ signed (f .heat) → k ≡ badHeat t → k ≡ true → bounds.Refused refusal.Range ≡ boundsOf f
+  bounds-heat : (b d k : Bool) (t : ℤ) → b ≡ badPounds (f .pounds) → b ≡ false → d ≡ badArea (f .containment) (f .area) → d ≡ false → f .wall ≤ 10_000 → t ≡ signed (f .heat) → k ≡ badHeat t → k ≡ true → bounds.Refused refusal.Temperature ≡ boundsOf f
   unfolding boundsOf badWall
   bounds-heat b d k t e q g r w m h u =
       let p : badPounds (f .pounds) ≡ false = sym e ∙ q in
@@ -139,7 +139,7 @@ module _ (f : Fields) where
       simp (p, s, x, v) (ap bounds.Within m)
 
   -- the same where the temperature was handed on by its bits
-  pub heat-refused : (b d k : Bool) (t : ℤ) → SFits w16 t → b ≡ badPounds (f .pounds) → b ≡ false → d ≡ badArea (f .containment) (f .area) → d ≡ false → f .wall ≤ 10_000 → t ≡ signed (f .heat) → k ≡ badHeat (toZ w16 (ofZ w16 t)) → k ≡ true → bounds.Refused refusal.Range ≡ boundsOf f
+  pub heat-refused : (b d k : Bool) (t : ℤ) → SFits w16 t → b ≡ badPounds (f .pounds) → b ≡ false → d ≡ badArea (f .containment) (f .area) → d ≡ false → f .wall ≤ 10_000 → t ≡ signed (f .heat) → k ≡ badHeat (toZ w16 (ofZ w16 t)) → k ≡ true → bounds.Refused refusal.Temperature ≡ boundsOf f
   heat-refused b d k t fits e q g r w m h u = bounds-heat b d k (toZ w16 (ofZ w16 t)) e q g r w (toZ-ofZ fits ∙ m) h u
 
   pub heat-within : (b d k : Bool) (t : ℤ) → SFits w16 t → b ≡ badPounds (f .pounds) → b ≡ false → d ≡ badArea (f .containment) (f .area) → d ≡ false → f .wall ≤ 10_000 → t ≡ signed (f .heat) → k ≡ badHeat (toZ w16 (ofZ w16 t)) → k ≡ false → bounds.Within (toZ w16 (ofZ w16 t)) ≡ boundsOf f

@@ -51,7 +51,7 @@ pub record Ranged (f : Fields) : Type 0 where
   -- as the two bytes hold it: from 0 up, or below 0
   pub heat : (f .heat ≤ 3_000) ⊎ (65_036 ≤ f .heat)
 
--- ---- what the tests of 8 and 9 say of a number that they let pass
+-- ---- what the tests of 8, 9, 14 and 15 say of a number that they let pass
 
 pub pounds-within : (n : ℕ) → badPounds n ≡ false → n ≤ 10_000_000
 unfolding badPounds
@@ -102,7 +102,7 @@ passed : (b : Bool) (r : Refusal) (further : Meaning) → Sound (meaningIf b r f
 passed true r further n = absurd (n r refl)
 passed false r further n = (refl, n)
 
--- so does one of 8 and 9
+-- so does one of its ranges
 module _ (f : Fields) (entry : Toxic) (standing : Standing) where
   within : (b : Bool) (r : Refusal) (further : Bounds) → Sound (toxicBounded (boundsIf b r further) f entry standing)
       → (b ≡ false) × Sound (toxicBounded further f entry standing)

@@ -1,4 +1,4 @@
--- From the fields of a card to its meaning or a refusal, in document 01's order of checks: 5, 6, 7, 8, 9.
+-- From the fields of a card to its meaning or a refusal, in the order of the checks: 5, 6, 7, 8, 9, 14, 15.
 -- Assumes nothing.
 use Prim.Native.Nat.{ℕ, _-_, _≤_}
 use mathlib.Core.Bool.{Bool, true, false, not}
@@ -31,11 +31,11 @@ badNumber number last = either (eqb number 0) (leb number last)
 unfoldable pub badPounds : ℕ → Bool
 badPounds pounds = either (eqb pounds 0) (ltb 10_000_000 pounds)
 
--- 9: "area, wall or temperature out of range": "dike or floor area in square feet, 1 to 1,000,000; zero if open"
+-- 9, by document 02, A2, "becomes area only": "dike or floor area in square feet, 1 to 1,000,000; zero if open"
 unfoldable pub badArea : ℕ → ℕ → Bool
 badArea containment area = elim (eqb containment 0) [ true ↦ false | false ↦ either (eqb area 0) (ltb 1_000_000 area) ]
 
--- "wall in hundredths of a foot, 0 to 10,000"
+-- 14: "wall out of range": "wall in hundredths of a foot, 0 to 10,000"
 unfoldable pub badWall : ℕ → Bool
 badWall wall = ltb 10_000 wall
 
@@ -43,7 +43,7 @@ badWall wall = ltb 10_000 wall
 unfoldable pub signed : ℕ → ℤ
 signed heat = elim (ltb heat 32_768) [ true ↦ pos heat | false ↦ negsuc (65_535 - heat) ]
 
--- "-500 to 3,000"
+-- 15: "temperature out of range": "-500 to 3,000"
 unfoldable pub badHeat : ℤ → Bool
 badHeat t = either (ltZ t (negsuc 499)) (ltZ (pos 3_000) t)
 
@@ -52,15 +52,15 @@ abbrev pub boundsIf : Bool → Refusal → Bounds → Bounds
 boundsIf true r further = bounds.Refused r
 boundsIf false r further = further
 
--- 8 and 9 in turn, and the temperature
+-- 8, then "area, wall and temperature are checked in that order", and the temperature
 unfoldable pub boundsOf : Fields → Bounds
 boundsOf f =
     boundsIf (badPounds (f .pounds)) refusal.Quantity
-    (boundsIf (badArea (f .containment) (f .area)) refusal.Range
-    (boundsIf (badWall (f .wall)) refusal.Range
-    (boundsIf (badHeat (signed (f .heat))) refusal.Range (bounds.Within (signed (f .heat))))))
+    (boundsIf (badArea (f .containment) (f .area)) refusal.Area
+    (boundsIf (badWall (f .wall)) refusal.Wall
+    (boundsIf (badHeat (signed (f .heat))) refusal.Temperature (bounds.Within (signed (f .heat))))))
 
--- 7: "CAS number not listed for the kind", then 8 and 9
+-- 7: "CAS number not listed for the kind", then the ranges
 abbrev pub toxicBounded : Bounds → Fields → Toxic → Standing → Meaning
 toxicBounded (bounds.Within t) f entry standing =
     meaning.Toxic
@@ -103,9 +103,9 @@ shaped (shape.Refused r) f = meaning.Refused r
 unfoldable pub meaningOf : Fields → ℕ → Meaning
 meaningOf f last = meaningIf (badNumber (f .number) last) refusal.Number (shaped (shapeOf f) f)
 
--- the refusal that 8 and 9 give; the last of them where they give none
+-- the refusal that the ranges give; the last of them where they give none
 abbrev pub boundsRefusal : Bounds → Refusal
-boundsRefusal (bounds.Within t) = refusal.Range
+boundsRefusal (bounds.Within t) = refusal.Temperature
 boundsRefusal (bounds.Refused r) = r
 
 -- what numbers in range, and a meaning, keep of document 01's limits

@@ -84,14 +84,14 @@ fn bounds_of(f: Fields) -> Bounds
         return Bounds::Refused(Refusal::Quantity);
     }
     if bad_area(f.containment, f.area) {
-        return Bounds::Refused(Refusal::Range);
+        return Bounds::Refused(Refusal::Area);
     }
     if 10_000 < f.wall {
-        return Bounds::Refused(Refusal::Range);
+        return Bounds::Refused(Refusal::Wall);
     }
     let tenths = to_signed(f.heat);
     if bad_heat(tenths) {
-        return Bounds::Refused(Refusal::Range);
+        return Bounds::Refused(Refusal::Temperature);
     }
     Bounds::Within(tenths)
 }
@@ -100,7 +100,7 @@ fn bounds_refusal(found: Bounds) -> Refusal
     ensures { λ r. ⌜ r ≡ boundsRefusal found ⌝ }
 {
     match found {
-        Bounds::Within(_) => Refusal::Range,
+        Bounds::Within(_) => Refusal::Temperature,
         Bounds::Refused(refusal) => refusal,
     }
 }

@@ -1,5 +1,6 @@
--- The examples of document 01's table "When a register is sent back", and the one theorem that each is sent back as its row
--- states: the call gives its number and place, and of the conditions of that place its own is the first that holds.
+-- The examples of document 01's table "When a register is sent back", with those of document 02, and the one theorem that each
+-- is sent back as its row states: the call gives its number and place, and of the conditions of that place its own is the first
+-- that holds.
 -- Assumes nothing.
 use Prim.Native.Nat.{ℕ}
 use mathlib.Core.Path.{_≡_, refl}
@@ -9,7 +10,7 @@ use Rattle.refusals.specs.Numbers.{numberOf}
 use Rattle.walk.specs.declared.Outcome.{Outcome}
 use Rattle.walk.specs.declared.Outcome.the-variants as outcome
 use Rattle.register.specs.Register.{outcomeOf}
-use Rattle.conditions.specs.Conditions.{Condition, condition, unlisted, filled, badToxic, badFlammable, badForm, ofGas, ofLiquid, ofTable13, badCas, badRange, mismatched, aboveLast, lastInUse, beyondTable, stateIn, groundIn, heldIn, beyond, ofRegister, ofCard, only, conditionsAt}
+use Rattle.conditions.specs.Conditions.{Condition, condition, unlisted, filled, badToxic, badFlammable, badForm, ofGas, ofLiquid, ofTable13, badCas, mismatched, aboveLast, lastInUse, beyondTable, stateIn, groundIn, heldIn, beyond, ofRegister, ofCard, only, conditionsAt}
 use Rattle.promises.specs.Starred.{cardOf, registerOf, chlorine, ammonia, bromine, propane, rural, urban, in-open, in-dike, computed}
 
 -- a register, the length of the answer buffer, and the number and place that it is sent back with
@@ -25,6 +26,10 @@ example number place room register = record { register = register; room = room; 
 -- one card in a register, with room for its answer
 abbrev pub card : ℕ → List ℕ → Example
 card number bytes = example number 0 16 (registerOf (bytes ∷ []))
+
+-- bromine in a dike at a temperature
+abbrev pub bromineAt : ℕ → ℕ → ℕ → List ℕ
+bromineAt heat area wall = cardOf 1 4 urban in-dike 7726956 20_000 area wall heat 1
 
 unfoldable pub examples : List Example
 examples =
@@ -44,12 +49,24 @@ examples =
     ∷ card 7 (cardOf 1 2 rural in-open 74986 10_000 0 0 0 1)
     -- 8: "0 lb"
     ∷ card 8 (chlorine rural in-open 0 0 1)
-    -- 9: "wall 10,001"
-    ∷ card 9 (bromine in-dike 100 10_001 1)
+    -- 9 "becomes area only": a dike of no area
+    ∷ card 9 (bromine in-dike 0 400 1)
     -- 10: "chlorine, state 4"
     ∷ card 10 (cardOf 1 4 rural in-open 7782505 2_500 0 0 250 1)
     -- 11: "ammonia, state 3, urban, open, 7,500,010 lb"
     ∷ card 11 (ammonia 7_500_010 1)
+    -- 14: "01's example of 9 is now 14's", "wall 10,001"
+    ∷ card 14 (bromine in-dike 100 10_001 1)
+    -- 15: a tenth of a degree above 300 °C
+    ∷ card 15 (bromineAt 3_001 100 400)
+    -- "area, wall and temperature are checked in that order": of two faults the first is named
+    ∷ card 9 (bromine in-dike 0 10_001 1)
+    ∷ card 9 (bromineAt 3_001 0 400)
+    ∷ card 14 (bromineAt 3_001 100 10_001)
+    -- "where 9 was": behind 8, and before 10, which refuses chlorine in a dike in state 2 and in state 4
+    ∷ card 8 (cardOf 1 4 urban in-dike 7726956 0 100 10_001 250 1)
+    ∷ card 14 (cardOf 1 2 rural in-dike 7782505 2_500 100 10_001 0 1)
+    ∷ card 15 (cardOf 1 4 rural in-open 7782505 2_500 0 0 3_001 1)
     ∷ []
 
 -- the number and the place of a call that is sent back
@@ -84,5 +101,5 @@ stated e = e .number ∷ e .place ∷ e .number ∷ []
 
 -- Every example of the table.
 pub sent-back : map defined examples ≡ map stated examples
-unfolding examples computed holding conditionsAt only ofRegister ofCard badForm badToxic badFlammable unlisted filled badCas ofGas ofLiquid ofTable13 badRange mismatched beyond stateIn groundIn heldIn beyondTable aboveLast lastInUse
+unfolding examples computed holding conditionsAt only ofRegister ofCard badForm badToxic badFlammable unlisted filled badCas ofGas ofLiquid ofTable13 mismatched beyond stateIn groundIn heldIn beyondTable aboveLast lastInUse
 sent-back = refl

@@ -13,9 +13,12 @@ numberOf refusal.Number = 5
 numberOf refusal.Form = 6
 numberOf refusal.Unlisted = 7
 numberOf refusal.Quantity = 8
-numberOf refusal.Range = 9
+numberOf refusal.Area = 9
 numberOf refusal.Mismatch = 10
 numberOf refusal.Beyond = 11
 -- document 02, A1
 numberOf refusal.Line = 12
 numberOf refusal.Room = 13
+-- A2; 9 "becomes area only"
+numberOf refusal.Wall = 14
+numberOf refusal.Temperature = 15

@@ -12,11 +12,13 @@ pub enum Refusal {
     Form,
     Unlisted,
     Quantity,
-    Range,
+    Area,
     Mismatch,
     Beyond,
     Line,
     Room,
+    Wall,
+    Temperature,
 }
 
 // The number of a refusal.
@@ -32,10 +34,12 @@ pub fn number(refusal: Refusal) -> u8
         Refusal::Form => 6,
         Refusal::Unlisted => 7,
         Refusal::Quantity => 8,
-        Refusal::Range => 9,
+        Refusal::Area => 9,
         Refusal::Mismatch => 10,
         Refusal::Beyond => 11,
         Refusal::Line => 12,
         Refusal::Room => 13,
+        Refusal::Wall => 14,
+        Refusal::Temperature => 15,
     }
 }
