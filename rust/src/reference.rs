@@ -69,11 +69,13 @@ enum Fault {
     Form = 6,
     Substance = 7,
     Pounds = 8,
-    Range = 9,
+    Area = 9,
     Exhibit = 10,
     Table = 11,
     Line = 12,
     Room = 13,
+    Wall = 14,
+    Temperature = 15,
 }
 
 impl Fault {
@@ -160,7 +162,7 @@ impl Answer {
     }
 }
 
-/// Checks 5 to 11 on each card in turn, with the answers if all pass.
+/// The checks of each card in turn, with the answers if all pass.
 fn answers(cards: &[u8]) -> Result<Vec<Answer>, Refused> {
     let printed = printed::printed();
     let mut answers = Vec::with_capacity(cards.len() / CARD_LEN);

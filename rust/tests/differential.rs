@@ -16,11 +16,20 @@ const SEED: u64 = 0x0155_0b99_0009;
 const RANDOM_REGISTERS: usize = 1_000_000;
 const LEAST_OF_EACH: usize = 1_000;
 
+/// How often each refusal was met, by its number.
+type Refusals = [usize; 16];
+
+/// The refusals that a register is never answered with: they are of comma lines alone.
+const NOT_OF_ANSWERS: [usize; 2] = [12, 13];
+/// The refusals that a register is never written with: the writer has neither an answer buffer nor a line to read.
+const NOT_OF_WRITING: [usize; 2] = [4, 12];
+
 #[test]
 fn the_proved_library_and_the_reference_agree() {
     let mut comparison = Comparison::new(SEED);
     sweep_toxics(&mut comparison);
     sweep_temperatures(&mut comparison);
+    sweep_ranges(&mut comparison);
     sweep_flammables(&mut comparison);
     for _ in 0..RANDOM_REGISTERS {
         let (register, buffer_len) = random_case(&mut comparison.rng);
@@ -51,7 +60,7 @@ struct Comparison {
     rng: Rng,
     answers: Lent,
     accepted: usize,
-    refused: [usize; 12],
+    refused: Refusals,
     routes: [usize; 4],
     tables: [usize; 14],
     lines: Lines,
@@ -63,7 +72,7 @@ impl Comparison {
             rng: Rng::new(seed),
             answers: Lent::default(),
             accepted: 0,
-            refused: [0; 12],
+            refused: Refusals::default(),
             routes: [0; 4],
             tables: [0; 14],
             lines: Lines::default(),
@@ -113,9 +122,7 @@ impl Comparison {
     fn report(&self) {
         let registers = self.accepted + self.refused.iter().sum::<usize>();
         println!("{registers} registers compared, {} accepted", self.accepted);
-        for (number, met) in self.refused.iter().enumerate().skip(1) {
-            println!("refused {number:2}: {met}");
-        }
+        report_refusals("refused", &self.refused, NOT_OF_ANSWERS);
         for (route, met) in self.routes.iter().enumerate().skip(1) {
             println!("answered by route {route}: {met} cards");
         }
@@ -124,7 +131,7 @@ impl Comparison {
         }
         assert!(registers >= RANDOM_REGISTERS);
         assert!(self.accepted * 4 >= registers, "too few registers were accepted");
-        for met in self.refused[1..].iter().chain(&self.routes[1..]).chain(&self.tables[1..]) {
+        for met in self.routes[1..].iter().chain(&self.tables[1..]) {
             assert!(*met >= LEAST_OF_EACH, "a case was met too seldom");
         }
         self.lines.report();
@@ -142,7 +149,7 @@ struct Lines {
     longer: usize,
     short_by_one: usize,
     shorter: usize,
-    refused: [usize; 14],
+    refused: Refusals,
     round_trips: usize,
 }
 
@@ -193,16 +200,19 @@ impl Lines {
         let Lines { exact, longer, short_by_one, shorter, .. } = self;
         println!("written into exact buffers: {exact}, into longer ones: {longer}");
         println!("not written into buffers short by one: {short_by_one}, into shorter ones: {shorter}");
-        for (number, met) in self.refused.iter().enumerate() {
-            if *met > 0 {
-                println!("lines refused {number:2}: {met}");
-            }
-        }
-        assert_eq!(self.refused[4] + self.refused[12], 0, "the writer has neither an answer buffer nor a line to read");
-        let refused = self.refused.iter().zip(0..).filter(|(_, number)| ![0, 4, 12].contains(number));
-        for met in refused.map(|(met, _)| met).chain([exact, longer, short_by_one, shorter]) {
+        report_refusals("lines refused", &self.refused, NOT_OF_WRITING);
+        for met in [exact, longer, short_by_one, shorter] {
             assert!(*met >= LEAST_OF_EACH, "a case of the writer was met too seldom");
         }
+    }
+}
+
+/// Prints how often each refusal was met: often enough, or never where the call does not give it.
+fn report_refusals(what: &str, refused: &Refusals, never: [usize; 2]) {
+    for (number, &met) in refused.iter().enumerate().skip(1) {
+        println!("{what} {number:2}: {met}");
+        let given = !never.contains(&number);
+        assert!(if given { met >= LEAST_OF_EACH } else { met == 0 }, "{what} {number}: {met}");
     }
 }
 
@@ -263,6 +273,36 @@ fn sweep_temperatures(comparison: &mut Comparison) {
                 Card { kind: 1, state: 4, ground: 2, cas: toxic.cas, pounds, tenths, number: 1, ..Card::default() };
             comparison.compare(&samples::register(&[card]), ANSWER_LEN);
         }
+    }
+}
+
+/// Areas, walls and temperatures at and beyond their ranges, two and three at once, beside pounds out of range before
+/// them and behind them states and dikes that do not suit the substance.
+fn sweep_ranges(comparison: &mut Comparison) {
+    const SUBSTANCES: [u32; 2] = [7_726_956, 7_782_505];
+    const AREAS: [u32; 4] = [0, 1, MAX_AREA, MAX_AREA + 1];
+    const WALLS: [u16; 4] = [0, MAX_WALL, MAX_WALL + 1, u16::MAX];
+    const TENTHS: [i16; 6] = [i16::MIN, -501, -500, 0, 3_000, 3_001];
+    for code in 0..2 * 2 * 4 * 3 * 4 * 4 * 6 {
+        let mut code = code;
+        let mut next = |choices: usize| {
+            let choice = code % choices;
+            code /= choices;
+            choice
+        };
+        let card = Card {
+            kind: 1,
+            state: 1 + next(4) as u8,
+            ground: 1,
+            containment: next(3) as u8,
+            cas: SUBSTANCES[next(2)],
+            pounds: next(2) as u32,
+            area: AREAS[next(4)],
+            wall: WALLS[next(4)],
+            tenths: TENTHS[next(6)],
+            number: 1,
+        };
+        comparison.compare(&samples::register(&[card]), ANSWER_LEN);
     }
 }
 

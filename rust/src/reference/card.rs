@@ -10,7 +10,7 @@ const AREA: RangeInclusive<u32> = 1..=1_000_000;
 const WALL: RangeInclusive<u16> = 0..=10_000;
 const TEMPERATURE: RangeInclusive<i16> = -500..=3_000;
 
-/// A card that passed checks 5 to 9, and 10 as far as its fields alone decide it.
+/// A card that passed checks 5 to 9, 14 and 15, and 10 as far as its fields alone decide it.
 pub struct Card<'p> {
     pub number: u32,
     pub meaning: Meaning<'p>,
@@ -141,12 +141,15 @@ fn flammable<'p>(fields: &Fields, printed: &'p Printed) -> Result<Meaning<'p>, F
     Ok(Meaning::Flammable { substance, pounds: Pounds::new(fields.pounds) })
 }
 
-/// Checks 6 to 10 in their order: each stage settles one number for all fields before the next number is looked at.
+/// Checks 6 to 9, 14, 15 and 10, in this order: each stage settles one number before the next is looked at. A field that
+/// does not apply is zero once 6 has passed.
 fn toxic<'p>(fields: &Fields, printed: &'p Printed) -> Result<ToxicCard<'p>, Fault> {
     let (state, ground, containment) = form(fields)?;
     let substance = printed.toxic(fields.cas).ok_or(Fault::Substance)?;
     demand(POUNDS.contains(&fields.pounds), Fault::Pounds)?;
-    demand(in_range(fields, state, containment), Fault::Range)?;
+    demand(containment == Containment::Open || AREA.contains(&fields.area), Fault::Area)?;
+    demand(WALL.contains(&fields.wall), Fault::Wall)?;
+    demand(TEMPERATURE.contains(&fields.tenths), Fault::Temperature)?;
     demand(fits(&substance.phase, state, containment), Fault::Exhibit)?;
     Ok(ToxicCard { substance, state, ground, containment, pounds: Pounds::new(fields.pounds) })
 }
@@ -170,13 +173,6 @@ fn form(fields: &Fields) -> Result<(State, Ground, Containment), Fault> {
         _ => return Err(Fault::Form),
     };
     Ok((state, ground, containment))
-}
-
-/// Check 9. A field that does not apply was found zero by check 6.
-fn in_range(fields: &Fields, state: State, containment: Containment) -> bool {
-    let area_fits = containment == Containment::Open || AREA.contains(&fields.area);
-    let temperature_fits = !matches!(state, State::Liquid(_)) || TEMPERATURE.contains(&fields.tenths);
-    area_fits && WALL.contains(&fields.wall) && temperature_fits
 }
 
 /// Check 10, as far as no factor is read: the state suits the exhibit, and only what can pool is diked.

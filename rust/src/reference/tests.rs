@@ -121,9 +121,11 @@ fn the_examples_of_refusals() {
     assert_eq!(refusal_of(Card { kind: 3, ..chlorine(RURAL, 1) }), Some((6, 0)));
     assert_eq!(refusal_of(toxic(PROPANE, 1, RURAL, 1)), Some((7, 0)));
     assert_eq!(refusal_of(chlorine(RURAL, 0)), Some((8, 0)));
-    assert_eq!(refusal_of(diked(bromine(), 100, 10_001)), Some((9, 0)));
+    assert_eq!(refusal_of(diked(bromine(), 0, 400)), Some((9, 0)));
     assert_eq!(refusal_of(toxic(CHLORINE, 4, RURAL, 1)), Some((10, 0)));
     assert_eq!(refusal_of(toxic(AMMONIA, 3, URBAN, 7_500_010)), Some((11, 0)));
+    assert_eq!(refusal_of(diked(bromine(), 100, 10_001)), Some((14, 0)));
+    assert_eq!(refusal_of(at(bromine(), 3_001)), Some((15, 0)));
 }
 
 #[test]
@@ -140,30 +142,40 @@ fn a_short_buffer_is_refused_and_no_refusal_changes_it() {
 }
 
 #[test]
-fn a_field_that_must_be_zero_is_6_and_an_area_of_zero_9() {
+fn a_field_that_must_be_zero_is_6_and_one_out_of_range_is_9_or_14_or_15() {
     assert_eq!(refusal_of(Card { area: 1, ..bromine() }), Some((6, 0)));
+    assert_eq!(refusal_of(Card { wall: 10_001, ..bromine() }), Some((6, 0)));
     assert_eq!(refusal_of(Card { wall: 1, ..in_building(bromine(), 100) }), Some((6, 0)));
+    assert_eq!(refusal_of(at(chlorine(RURAL, 1), 3_001)), Some((6, 0)));
     assert_eq!(refusal_of(at(chlorine(RURAL, 1), 250)), Some((6, 0)));
     assert_eq!(refusal_of(Card { ground: RURAL, ..flammable(PROPANE, 1) }), Some((6, 0)));
-    assert_eq!(refusal_of(diked(bromine(), 0, 400)), Some((9, 0)));
+    assert_eq!(refusal_of(Card { wall: 10_001, ..flammable(PROPANE, 1) }), Some((6, 0)));
+    assert_eq!(refusal_of(diked(bromine(), 1_000_001, 400)), Some((9, 0)));
+    assert_eq!(refusal_of(diked(bromine(), 1_000_000, 10_000)), None);
+    assert_eq!(refusal_of(diked(bromine(), 1_000_000, 10_001)), Some((14, 0)));
     assert_eq!(refusal_of(in_building(bromine(), 0)), Some((9, 0)));
-    assert_eq!(refusal_of(at(bromine(), -501)), Some((9, 0)));
+    assert_eq!(refusal_of(at(bromine(), -501)), Some((15, 0)));
     assert_eq!(refusal_of(at(bromine(), -500)), None);
-    assert_eq!(refusal_of(at(bromine(), 3_001)), Some((9, 0)));
+    assert_eq!(refusal_of(at(bromine(), 3_000)), None);
+    assert_eq!(refusal_of(at(bromine(), 3_001)), Some((15, 0)));
 }
 
 #[test]
-fn the_lower_number_is_found_first() {
-    let wrong_in_all = Card { number: 0, state: 9, cas: 1, pounds: 0, ..diked(bromine(), 0, 10_001) };
-    let mended = [
-        (5, wrong_in_all),
-        (6, Card { number: 1, ..wrong_in_all }),
-        (7, Card { number: 1, state: 1, tenths: 0, ..wrong_in_all }),
-        (8, Card { number: 1, state: 1, tenths: 0, cas: BROMINE, ..wrong_in_all }),
-        (9, Card { number: 1, state: 1, tenths: 0, cas: BROMINE, pounds: 1, ..wrong_in_all }),
-        (10, Card { number: 1, state: 1, tenths: 0, cas: BROMINE, pounds: 1, area: 1, wall: 1, ..wrong_in_all }),
+fn the_checks_come_in_their_order() {
+    let mut card = Card { number: 0, state: 9, cas: 1, pounds: 0, ..at(diked(bromine(), 0, 10_001), 3_001) };
+    assert_eq!(refusal_of(card), Some((5, 0)));
+    // Each mend lets the next check find its fault: the last is a gas in state 4.
+    let mends: [(u8, fn(&mut Card)); 7] = [
+        (6, |card| card.number = 1),
+        (7, |card| card.state = 4),
+        (8, |card| card.cas = CHLORINE),
+        (9, |card| card.pounds = 1),
+        (14, |card| card.area = 1),
+        (15, |card| card.wall = 1),
+        (10, |card| card.tenths = 250),
     ];
-    for (number, card) in mended {
+    for (number, mend) in mends {
+        mend(&mut card);
         assert_eq!(refusal_of(card), Some((number, 0)));
     }
 }

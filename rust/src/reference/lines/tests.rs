@@ -334,9 +334,9 @@ fn what_numbers_mean_is_not_asked() {
 fn only_an_accepted_register_is_written() {
     let [chlorine, bromine, _] = example();
     let high_wall = register(&[chlorine, Card { wall: 10_001, ..bromine }]);
-    assert_eq!(write(&high_wall), refused(9, 1));
+    assert_eq!(write(&high_wall), refused(14, 1));
     // Its own refusal comes before 13, and 4 not at all.
-    assert_eq!(write_into(&high_wall, 0), refused(9, 1));
+    assert_eq!(write_into(&high_wall, 0), refused(14, 1));
     assert_eq!(write_into(&[0, 0, 0, 8, 1, 0, 0], 0), refused(1, 0));
     assert_eq!(write_into(&[0, 0, 0, 7, 2, 0, 0], 0), refused(2, 0));
     assert_eq!(write_into(&[0, 0, 0, 7, 1, 0, 1], 0), refused(3, 0));
