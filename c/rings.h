@@ -24,22 +24,24 @@ extern "C" {
 
 /*
  * Why a register or a text is sent back. 1 to 4 and 13 mean no card, and their place is 0; the place of 12 is the
- * line's number, counted from 1.
+ * line's number, counted from 1. A card is checked in the order 5, 6, 7, 8, 9, 14, 15, 10, 11.
  */
 enum rings_refusal {
-    RINGS_LENGTH = 1,    /* under 7 bytes, or the length field is not register_len */
-    RINGS_VERSION = 2,   /* the version is not 1 */
-    RINGS_COUNT = 3,     /* over 2,000 cards, or register_len is not 7 + 24 x cards */
-    RINGS_BUFFER = 4,    /* answers_len is under 16 x cards */
-    RINGS_NUMBER = 5,    /* a card number is zero or not above the last */
-    RINGS_FORM = 6,      /* bytes 0 to 3 are unlisted, or a must-be-zero field is filled */
-    RINGS_UNLISTED = 7,  /* the CAS number is not listed for the kind */
-    RINGS_QUANTITY = 8,  /* pounds out of range */
-    RINGS_RANGE = 9,     /* area, wall or temperature out of range */
-    RINGS_MISMATCH = 10, /* state, substance and containment do not go together, or the exhibit has no data */
-    RINGS_BEYOND = 11,   /* beyond the table */
-    RINGS_LINE = 12,     /* a line is not eleven well-formed fields, or has over 200 bytes */
-    RINGS_ROOM = 13      /* the buffer is too small for what has to be written, or there are over 2,000 lines */
+    RINGS_LENGTH = 1,      /* under 7 bytes, or the length field is not register_len */
+    RINGS_VERSION = 2,     /* the version is not 1 */
+    RINGS_COUNT = 3,       /* over 2,000 cards, or register_len is not 7 + 24 x cards */
+    RINGS_BUFFER = 4,      /* answers_len is under 16 x cards */
+    RINGS_NUMBER = 5,      /* a card number is zero or not above the last */
+    RINGS_FORM = 6,        /* bytes 0 to 3 are unlisted, or a must-be-zero field is filled */
+    RINGS_UNLISTED = 7,    /* the CAS number is not listed for the kind */
+    RINGS_QUANTITY = 8,    /* pounds out of range */
+    RINGS_AREA = 9,        /* area out of range */
+    RINGS_MISMATCH = 10,   /* state, substance and containment do not go together, or the exhibit has no data */
+    RINGS_BEYOND = 11,     /* beyond the table */
+    RINGS_LINE = 12,       /* a line is not eleven well-formed fields, or has over 200 bytes */
+    RINGS_ROOM = 13,       /* the buffer is too small for what has to be written, or there are over 2,000 lines */
+    RINGS_WALL = 14,       /* wall out of range */
+    RINGS_TEMPERATURE = 15 /* temperature out of range */
 };
 
 /*
