@@ -12,7 +12,6 @@ use lib.ListN.{getD, length, length-map}
 use borrow.Author.Tests.{eqb-true, ltb-true, lt-ltb, le-ltb}
 use Rattle.search.specs.Rising.{both, firstAtLeast}
 use Rattle.search.specs.Laws.{both-true, lt-or-ge, first-on, first-mono, first-reaches, rising}
-use Rattle.search.specs.Places.{among}
 use Rattle.search.specs.PlaceLaws.{look-listed, every-at}
 use Rattle.units.specs.declared.Reading.{Reading}
 use Rattle.units.specs.declared.Reading.the-variants as reading

@@ -1,15 +1,14 @@
 -- What a card comes to is the first of its conditions that holds.
 -- Assumes nothing.
 use Prim.Native.Nat.{ℕ}
-use native.Mathlib.Omega.{arith}
 use mathlib.Core.Path.{_≡_, _∙_, refl, sym, ap, ap₂}
 use mathlib.Core.Bool.{Bool, true, false, not}
 use mathlib.Core.List.{List, [], _∷_}
 use lib.Dec.{eqb, ltb}
 use lib.ListN.{drop}
-use borrow.Author.Tests.{eqb-true, not-false}
+use borrow.Author.Tests.{not-false}
 use Rattle.search.specs.Rising.{both}
-use Rattle.search.specs.Laws.{clash, both-true}
+use Rattle.search.specs.Laws.{clash}
 use Rattle.search.specs.Places.{either, among}
 use Rattle.units.specs.declared.Reading.{Reading}
 use Rattle.units.specs.declared.Reading.the-variants as reading
@@ -41,10 +40,11 @@ use Rattle.meaning.specs.declared.Meaning.{Meaning}
 use Rattle.form.specs.Form.{stateOf, groundOf, heldOf, heatFits, shapedHeat, shapedHeld, shapedState, shapedBlank, shapeOf, blank}
 use Rattle.meaning.specs.Reading.{badNumber, badPounds, badArea, badWall, badHeat, signed, boundsIf, boundsOf, toxicBounded, isListed, meaningIf, toxicMeaning, flammableOf, shaped, meaningOf}
 use Rattle.form.specs.Inverse.{Stands, toxic-shape, flammable-shape}
+use Rattle.form.specs.Same.{Blank, flammable-blank}
 use Rattle.card.specs.declared.Answered.{Answered}
 use Rattle.card.specs.declared.Answered.the-variants as answered
 use Rattle.card.specs.Answers.{readToxic, plannedAnswer, readFlammable, answerFor, answerOf}
-use Rattle.conditions.specs.Conditions.{anyOf, ofGas, ofLiquid, ofTable13, badForm, badCas, aboveFifty, cellRead, withoutData, mismatched, toxicCard, groundIn, beyondPlan, beyond, ofCard}
+use Rattle.conditions.specs.Conditions.{ofGas, ofLiquid, ofTable13, badCas, aboveFifty, cellRead, withoutData, mismatched, toxicCard, groundIn, beyondPlan, beyond, ofCard}
 use Rattle.conditions.specs.First.{Verdict, passed, refused, pick, firstOf}
 use Rattle.conditions.specs.Form.{either-last, isRefused, form-is}
 use Rattle.conditions.specs.Substances.{Seen, a-gas, a-liquid, neither, seen}
@@ -170,41 +170,6 @@ toxic-verdict card n standing e =
 
 -- ---- a flammable card
 
--- what a flammable card leaves blank
-record Blank (f : Fields) : Type 0 where
-  state : f .state ≡ 0
-  containment : f .containment ≡ 0
-  wall : f .wall ≡ 0
-  heat : f .heat ≡ 0
-
-blank-shape : (f : Fields) → shapeOf f ≡ shape.Flammable → blank f ≡ true
-unfolding shapeOf
-blank-shape f e = go (eqb (f .kind) 1) (eqb (f .kind) 2) refl e
-  where
-    told : (b : Bool) → shapedBlank b ≡ shape.Flammable → b ≡ true
-    told true q = refl
-    told false q = let z : _≡_ {A = ℕ} 0 1 = cc in clash z
-
-    go : (a b : Bool) → eqb (f .kind) 1 ≡ a → (elim a as (λ _. Shape) [ true ↦ shapedState (stateOf (f .state)) f | false ↦ elim b as (λ _. Shape) [ true ↦ shapedBlank (blank f) | false ↦ shape.Refused refusal.Form ] ]) ≡ shape.Flammable → blank f ≡ true
-    go true b k q = absurd (omega (arith, eqb-true (f .kind) 1 k, flammable-shape f e))
-    go false true k q = told (blank f) q
-    go false false k q = let z : _≡_ {A = ℕ} 0 1 = cc in clash z
-
-is-blank : (f : Fields) → blank f ≡ true → Blank f
-unfolding blank
-is-blank f e =
-    let a = both-true (eqb (f .state) 0) (both (eqb (f .ground) 0) (both (eqb (f .containment) 0) (both (eqb (f .area) 0) (both (eqb (f .wall) 0) (eqb (f .heat) 0))))) e in
-    let b = both-true (eqb (f .ground) 0) (both (eqb (f .containment) 0) (both (eqb (f .area) 0) (both (eqb (f .wall) 0) (eqb (f .heat) 0)))) (a .1) in
-    let c = both-true (eqb (f .containment) 0) (both (eqb (f .area) 0) (both (eqb (f .wall) 0) (eqb (f .heat) 0))) (b .1) in
-    let d = both-true (eqb (f .area) 0) (both (eqb (f .wall) 0) (eqb (f .heat) 0)) (c .1) in
-    let g = both-true (eqb (f .wall) 0) (eqb (f .heat) 0) (d .1) in
-    record {
-      state = eqb-true (f .state) 0 (a .0);
-      containment = eqb-true (f .containment) 0 (c .0);
-      wall = eqb-true (f .wall) 0 (g .0);
-      heat = eqb-true (f .heat) 0 (g .1);
-    }
-
 -- nothing of it is out of range, and no state of its mismatches
 area-blank : (card : List ℕ) → Blank (fieldsOf card) → badArea (byteAt card 3) (fieldsOf card .area) ≡ false
 unfolding badArea fieldsOf
@@ -239,7 +204,7 @@ unfolding flammableOf fieldsOf ofTable13 isFlammable ofCard firstOf
 flammable-verdict card n e =
     let f : Fields = fieldsOf card in
     let kind = flammable-shape f e in
-    let b = is-blank f (blank-shape f e) in
+    let b = flammable-blank f e in
     rw (cas-flammable card kind)
     (meaning-line n (not (isFlammable (f .cas))) _ _
     (λ l.

@@ -4,7 +4,6 @@ use Prim.Native.Nat.{ℕ}
 use mathlib.Core.Path.{_≡_, _∙_, refl, sym, ap, subst}
 use mathlib.Core.Bool.{Bool, true, false, not}
 use mathlib.Core.List.{map}
-use Rattle.search.specs.Rising.{both}
 use Rattle.search.specs.Places.{among, every, lookUp}
 use Rattle.search.specs.PlaceLaws.{look-none, look-found, among-one}
 use Rattle.exhibits.specs.declared.Gas as gases

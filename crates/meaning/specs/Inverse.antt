@@ -67,15 +67,11 @@ within-is e = cc
 
 bounds-heat : (f : Fields) {t : ℤ} → boundsOf f ≡ bounds.Within t → signed (f .heat) ≡ t
 unfolding boundsOf
-bounds-heat f {t} e =
-    let last : Bounds = bounds.Within (signed (f .heat)) in
-    let third : Bounds = boundsIf (badHeat (signed (f .heat))) refusal.Temperature last in
-    let second : Bounds = boundsIf (badWall (f .wall)) refusal.Wall third in
-    let first : Bounds = boundsIf (badArea (f .containment) (f .area)) refusal.Area second in
-    let a : first ≡ bounds.Within t = bounds-passed (badPounds (f .pounds)) refusal.Quantity first e in
-    let b : second ≡ bounds.Within t = bounds-passed (badArea (f .containment) (f .area)) refusal.Area second a in
-    let c : third ≡ bounds.Within t = bounds-passed (badWall (f .wall)) refusal.Wall third b in
-    within-is (bounds-passed (badHeat (signed (f .heat))) refusal.Temperature last c)
+bounds-heat f e =
+    let quantity = bounds-passed (badPounds (f .pounds)) _ _ e in
+    let area = bounds-passed (badArea (f .containment) (f .area)) _ _ quantity in
+    let wall = bounds-passed (badWall (f .wall)) _ _ area in
+    within-is (bounds-passed (badHeat (signed (f .heat))) _ _ wall)
 
 toxic-is : {a b : ToxicCard} → meaning.Toxic a ≡ meaning.Toxic b → a ≡ b
 toxic-is e = cc
