@@ -1,5 +1,5 @@
--- "When a register is sent back": the condition of each number, over the bytes and the place, in document 01's words. A later
--- request adds a line to `ofRegister` or `ofCard`.
+-- "When a register is sent back": the condition of each number, over the bytes and the place, in document 01's words. "Demand 1
+-- counts these and later numbers with 01's" (document 02, A2): a request adds a line to `ofRegister` or `ofCard`.
 -- Assumes nothing.
 use Prim.Native.Nat.{ℕ, zero, suc, _*_, _-_}
 use mathlib.Core.Bool.{Bool, true, false, not}
