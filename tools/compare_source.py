@@ -4,7 +4,7 @@
     python3 tools/compare_source.py GUIDANCE [EXHIBITS]
 
 GUIDANCE is the text of EPA 550-B-99-009 (source document 001); every cell of data/table01.tsv to table13.tsv is
-compared with it. EXHIBITS is the folder with b1.tsv, b2.tsv and b4.tsv; data/'s files of the same names are compared
+compared with it. EXHIBITS is the folder with b1.tsv to b4.tsv; data/'s files of the same names are compared
 with those. Exits 1 on any disagreement.
 
 It shares no code with generate.py or with what first made data/: each table is cut out of the whole text by its
@@ -150,7 +150,7 @@ def main(arguments):
     cells = sum(compare_table(table, guidance, faults) for table in ROWS)
     print(f"{cells} cells compared with the guidance")
     if len(arguments) == 2:
-        exhibits = sum(compare_exhibit(name, Path(arguments[1]), faults) for name in ("b1.tsv", "b2.tsv", "b4.tsv"))
+        exhibits = sum(compare_exhibit(name, Path(arguments[1]), faults) for name in ("b1.tsv", "b2.tsv", "b3.tsv", "b4.tsv"))
         print(f"{exhibits} cells compared with the exhibits")
     for fault in faults:
         print(f"disagreement: {fault}", file=sys.stderr)

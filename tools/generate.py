@@ -21,11 +21,13 @@ DENSITY_FACTOR_DECIMALS = 2
 TEMPERATURE_FACTOR_DECIMALS = 2
 MILE_DECIMALS = 2
 RATIO_DECIMALS = 1
+PERCENT_DECIMALS = 1
 
 # Limits of the scope paper, in those units; the code's arithmetic relies on them.
 LIQUID_FACTOR_LIMIT = 1_000_000
 DENSITY_FACTOR_LIMIT = 200
 TEMPERATURE_FACTOR_LIMIT = 1_000
+PERCENT_LIMIT = 1_000
 
 # What the code stores in CELL where Exhibit B-4 prints no factor: above every factor that it may print.
 CELL_LFB = 65534
@@ -56,6 +58,7 @@ CHEMICAL_TABLES = (9, 10, 11, 12)
 
 GAS_COUNT = 23
 LIQUID_COUNT = 51
+SOLUTION_COUNT = 15
 FLAMMABLE_COUNT = 63
 DENSE_ROW_COUNT = 27
 DENSE_COLUMN_COUNT = 16
@@ -153,34 +156,51 @@ def plume(text, where):
 # ---- The exhibits ----
 
 
-def read_substance(cells, table, where):
-    """What both exhibits print of a substance; `table` names the column that says neutral or dense."""
+def read_substance(cells, factors, table, where):
+    """What B-1, B-2 and B-3 print of a substance; `factors` names the column of each liquid factor that it has, `table` the
+    column that says neutral or dense."""
     expect_no_blank(cells, where)
-    return {
+    substance = {
         "cas": cas_number(cells["cas"], where),
         "name": cells["name"],
         "endpoint": factor(cells["endpoint"], ENDPOINT_DECIMALS, 2**32 - 1, where),
-        "lfb": factor(cells["lfb"], LIQUID_FACTOR_DECIMALS, LIQUID_FACTOR_LIMIT, where),
+        "lfa": 0,
+        "lfb": 0,
         "df": factor(cells["df"], DENSITY_FACTOR_DECIMALS, DENSITY_FACTOR_LIMIT, where),
         "plume": plume(cells[table], where),
     }
+    for name, column in factors.items():
+        substance[name] = factor(cells[column], LIQUID_FACTOR_DECIMALS, LIQUID_FACTOR_LIMIT, where)
+    return substance
 
 
 def read_gases():
     columns = ["cas", "name", "molecular_weight", "endpoint", "lfb", "df", "reference_table"]
-    return [read_substance(cells, "reference_table", where)
+    return [read_substance(cells, {"lfb": "lfb"}, "reference_table", where)
             for where, cells in read_records("b1.tsv", columns, GAS_COUNT)]
 
 
 def read_liquids():
     columns = ["cas", "name", "molecular_weight", "vapor_pressure_mmhg", "endpoint", "lfa", "lfb", "df",
                "worst_case_table", "alternative_case_table"]
-    liquids = []
-    for where, cells in read_records("b2.tsv", columns, LIQUID_COUNT):
-        liquid = read_substance(cells, "worst_case_table", where)
-        liquid["lfa"] = factor(cells["lfa"], LIQUID_FACTOR_DECIMALS, LIQUID_FACTOR_LIMIT, where)
-        liquids.append(liquid)
-    return liquids
+    return [read_substance(cells, {"lfa": "lfa", "lfb": "lfb"}, "worst_case_table", where)
+            for where, cells in read_records("b2.tsv", columns, LIQUID_COUNT)]
+
+
+def read_solutions():
+    """The lines of Exhibit B-3: those of a substance stand together, the highest concentration first."""
+    columns = ["cas", "name", "endpoint", "percent", "lfa_1_5", "lfa_3_0", "df", "worst_case_table", "alternative_case_table"]
+    solutions = []
+    for where, cells in read_records("b3.tsv", columns, SOLUTION_COUNT):
+        solution = read_substance(cells, {"lfa": "lfa_1_5"}, "worst_case_table", where)
+        solution["percent"] = factor(cells["percent"], PERCENT_DECIMALS, PERCENT_LIMIT, where)
+        above = solutions[-1] if solutions else None
+        if above and above["cas"] == solution["cas"]:
+            expect(above["percent"] > solution["percent"], where, "the concentration is not below the one above it")
+        else:
+            expect(all(x["cas"] != solution["cas"] for x in solutions), where, "the substance stands in two places")
+        solutions.append(solution)
+    return solutions
 
 
 def read_cell(text, where):
@@ -438,6 +458,19 @@ def printed_b4(factors):
                          "b4", "FactorLine", items)])
 
 
+def printed_b3(solutions):
+    items = [(x["name"], f"solution {x['cas']} {x['percent']} {x['endpoint']} {x['lfa']} {x['df']} {x['plume']}")
+             for x in solutions]
+    return antt_file(
+        "data/b3.tsv",
+        "Exhibit B-3 as printed. Concentrations in tenths of a percent, endpoints in hundred-thousandths of mg/L, LFA in\n"
+        "-- millionths, DF in hundredths.",
+        [LIST_IMPORT, printed_import("exhibits", ["SolutionLine", "solution"]),
+         variants_import("Plume", {x["plume"] for x in solutions}, ("Neutral", "Dense"))],
+        [antt_definition("Exhibit B-3, water solutions and oleum, in the printed order: CAS number, concentration, endpoint, LFA at "
+                         "1.5 m/s, DF,\n-- worst-case plume", "b3", "SolutionLine", items)])
+
+
 def printed_neutral(tables):
     marks = [mark for table in tables.values() for _, _, mark in table["closed"]]
     marks += [table["above"][1] for table in tables.values()]
@@ -538,25 +571,30 @@ def exit_proof(place, unfolding, proof):
     return ["", f"{name} : tie.Need-{name}", f"unfolding {unfolding}", f"{name} c = {proof}"]
 
 
-def arms_proof(crate, function, imports, unfolding, meaning, keys, last):
-    """The proof file of an `rt_match`: an arm's value is computed from the printed lists at the arm's own key."""
+def exits_proof(crate, module, function, why, imports, unfolding, proofs):
+    """The proof file of a function of a table: a proof for each of its exits."""
     name = function.replace("_", "-")
-    module = f"Rattle.{crate}.proofs.tables.{function}"
+    path = f"Rattle.{crate}.proofs.{module}.{function}"
     lines = [
-        f"-- Generated by tools/generate.py: do not edit. `{crate}::tables::{function}` meets its contract: each arm is what is",
-        "-- printed at its key. Assumes nothing.",
+        f"-- Generated by tools/generate.py: do not edit. `{crate}::{module}::{function}` meets its contract: {why}",
         *imports,
-        f"use {module}.Statement.{{statement}}",
-        f"use {module}.Tie as tie",
+        f"use {path}.Statement.{{statement}}",
+        f"use {path}.Tie as tie",
     ]
-    for place, key in enumerate(keys):
-        lines += exit_proof(place, unfolding, f"arm {meaning} _ {key} (c .match .keys{place + 1}) refl")
-    lines += exit_proof(len(keys), unfolding, last)
+    for place, proof in enumerate(proofs):
+        lines += exit_proof(place, unfolding, proof)
     lines += ["", f"pub {name}-spec : {{M : Type 1}} → statement M", f"{name}-spec = tie.close", "    (tie.spec"]
-    names = [exit_name(place) for place in range(len(keys) + 1)]
+    names = [exit_name(place) for place in range(len(proofs))]
     lines += ["    " + " ".join(names[start:start + 10]) for start in range(0, len(names), 10)]
     lines[-1] += ")"
     return "\n".join(lines) + "\n"
+
+
+def arms_proof(crate, function, imports, unfolding, meaning, keys, last):
+    """The proof file of an `rt_match`: an arm's value is computed from the printed lists at the arm's own key."""
+    arms = [f"arm {meaning} _ {key} (c .match .keys{place + 1}) refl" for place, key in enumerate(keys)]
+    return exits_proof(crate, "tables", function, "each arm is what is\n-- printed at its key. Assumes nothing.", imports,
+                       unfolding, arms + [last])
 
 
 def rate_arrays(what, upto, last, rates):
@@ -572,26 +610,58 @@ def rt_cell(cell):
     return {"LFB": CELL_LFB, "ND": CELL_NO_DATA}.get(cell, cell)
 
 
-def exhibit_line(kind, substance, lfa, cells):
+NO_SUBSTANCE = {"lfa": 0, "lfb": 0, "df": 0, "endpoint": 0, "plume": "Neutral"}
+NO_FACTORS = ["ND"] * 5
+
+# The kinds of `Line` in crates/exhibits/src/lib.rt.
+KIND_NONE, KIND_GAS, KIND_LIQUID, KIND_SOLUTION, KIND_ABOVE = range(5)
+
+
+def exhibit_line(kind, substance=NO_SUBSTANCE, cells=NO_FACTORS):
     """The flat line of a substance; the fields are those of `Line` in crates/exhibits/src/lib.rt."""
-    fields = {"kind": kind, "lfa": lfa, "lfb": substance["lfb"], "df": substance["df"], "endpoint": substance["endpoint"],
-              "dense": int(substance["plume"] == "Dense")}
+    fields = {"kind": kind, "lfa": substance["lfa"], "lfb": substance["lfb"], "df": substance["df"],
+              "endpoint": substance["endpoint"], "dense": int(substance["plume"] == "Dense")}
     fields.update(zip(("at30", "at35", "at40", "at45", "at50"), map(rt_cell, cells)))
     return f"Line {{ {', '.join(f'{name}: {number}' for name, number in fields.items())} }}"
 
 
 def exhibit_lines(gases, liquids, factors):
-    none = {"lfb": 0, "df": 0, "endpoint": 0, "plume": "Neutral"}
-    no_factors = ["ND"] * 5
-    arms = [(x["name"], x["cas"], exhibit_line(1, x, 0, no_factors)) for x in gases]
-    arms += [(x["name"], x["cas"], exhibit_line(2, x, x["lfa"], y["cells"])) for x, y in zip(liquids, factors)]
+    arms = [(x["name"], x["cas"], exhibit_line(KIND_GAS, x)) for x in gases]
+    arms += [(x["name"], x["cas"], exhibit_line(KIND_LIQUID, x, y["cells"])) for x, y in zip(liquids, factors)]
     return rt_file(
         "data/b1.tsv, b2.tsv and b4.tsv",
         [rt_match("The line of a CAS number: Exhibit B-1, then B-2 with its factors of B-4, in the printed order.",
-                  "line_of(cas: u32) -> Line", "r ≡ lineOf (toxicOf cas)", "cas", arms,
-                  exhibit_line(0, none, 0, no_factors))],
+                  "line_of(cas: u32) -> Line", "r ≡ lineOf (toxicOf cas)", "cas", arms, exhibit_line(KIND_NONE))],
         ["use crate::Line;", "ghost use mathlib.Core.Path.{_≡_};",
          "ghost use Rattle.exhibits.specs.Exhibits.{toxicOf};", "ghost use Rattle.exhibits.specs.Lines.{lineOf};"])
+
+
+def by_substance(solutions):
+    """The substances of Exhibit B-3 in their order, each with its lines, the lowest concentration first."""
+    groups = {}
+    for line in solutions:
+        groups.setdefault(line["cas"], []).insert(0, line)
+    return groups
+
+
+def solution_arm(lines):
+    """What a substance's arm computes: the line of the first concentration that is not below the one asked for."""
+    arm = ["{"]
+    for line in lines:
+        arm += [f"            if tenths <= {line['percent']} {{", f"                return {exhibit_line(KIND_SOLUTION, line)};",
+                "            }"]
+    return "\n".join(arm + [f"            {exhibit_line(KIND_ABOVE)}", "        }"])
+
+
+def solution_lines(solutions):
+    arms = [(lines[0]["name"], cas, solution_arm(lines)) for cas, lines in by_substance(solutions).items()]
+    return rt_file(
+        "data/b3.tsv",
+        [rt_match("The line of Exhibit B-3 that is read at a concentration: the lowest printed one not below it.",
+                  "line_of(cas: u32, tenths: u16) -> Line", "r ≡ lineOf (readAt cas tenths)", "cas", arms,
+                  exhibit_line(KIND_NONE))],
+        ["use crate::Line;", "ghost use mathlib.Core.Path.{_≡_};",
+         "ghost use Rattle.exhibits.specs.Lines.{lineOf, readAt};"])
 
 
 def exhibit_proof(gases, liquids):
@@ -603,6 +673,25 @@ def exhibit_proof(gases, liquids):
          "use Rattle.exhibits.specs.Lines.{lineOf}", "use Rattle.exhibits.specs.Laws.{no-line}"],
         "toxicOf lookUp factorsOf b1 b2 b4", "(λ n. lineOf (toxicOf n))", [x["cas"] for x in gases + liquids],
         "no-line _ (c .match .rest)")
+
+
+def solution_proof(solutions):
+    """The proofs of the exits: first each `return` of each arm, then the arms' ends, then the end of the `match`."""
+    groups = by_substance(solutions)
+    steps = []
+    for cas, lines in groups.items():
+        bounds = [line["percent"] for line in lines]
+        steps.append(f"up-to {cas} {bounds[0]} refl")
+        steps += [f"between {cas} {low} {high} refl" for low, high in zip(bounds, bounds[1:])]
+    steps += [f"above {cas} {lines[-1]['percent']} refl" for cas, lines in groups.items()]
+    proofs = [f"search ({step}, needs)" for step in steps]
+    return exits_proof(
+        "exhibits", "solutions", "line_of", "each step of an arm\n-- is what is printed at its upper end. Assumes nothing.",
+        ["use mathlib.Core.Path.{refl}", "use mathlib.Core.List.{[], _∷_}", "use borrow.Author.Needs.{needs}",
+         "use Rattle.search.specs.Places.{among}", "use Rattle.exhibits.specs.PrintedB3.{b3}",
+         "use Rattle.exhibits.specs.Solutions.{linesOf, lowest}", "use Rattle.exhibits.specs.Lines.{readAt}",
+         "use Rattle.exhibits.proofs.Steps.{up-to, between, above, no-line}"],
+        "readAt among linesOf lowest b3", proofs + [f"no-line _ _ ({antt_list(groups)}) refl (c .match .rest)"])
 
 
 def neutral_arrays(tables):
@@ -689,6 +778,7 @@ def blast_proof(flammables):
 def generated_files():
     """Every generated file: its path below the repository and its text."""
     gases, liquids, factors = read_exhibits()
+    solutions = read_solutions()
     neutral = {number: read_neutral(number) for number in NEUTRAL_TABLES}
     dense = {number: read_dense(number) for number in DENSE_TABLES}
     chemical = {number: read_chemical(number) for number in CHEMICAL_TABLES}
@@ -696,9 +786,12 @@ def generated_files():
     return {
         "crates/exhibits/specs/PrintedB1.antt": printed_b1(gases),
         "crates/exhibits/specs/PrintedB2.antt": printed_b2(liquids),
+        "crates/exhibits/specs/PrintedB3.antt": printed_b3(solutions),
         "crates/exhibits/specs/PrintedB4.antt": printed_b4(factors),
+        "crates/exhibits/src/solutions.rt": solution_lines(solutions),
         "crates/exhibits/src/tables.rt": exhibit_lines(gases, liquids, factors),
         "crates/exhibits/proofs/tables/line_of/Proof.antt": exhibit_proof(gases, liquids),
+        "crates/exhibits/proofs/solutions/line_of/Proof.antt": solution_proof(solutions),
         "crates/neutral/specs/PrintedNeutral.antt": printed_neutral(neutral),
         "crates/neutral/src/tables.rt": neutral_arrays(neutral),
         "crates/dense/specs/PrintedDense.antt": printed_dense(dense),

@@ -1,9 +1,10 @@
 -- A substance read back from its line of numbers is the substance: what was kept as a number is what it was.
 -- Assumes nothing.
-use Prim.Native.Nat.{ℕ}
+use Prim.Native.Nat.{ℕ, _≤_}
 use native.Mathlib.Omega.{arith}
 use mathlib.Core.Path.{_≡_, refl, ap, _∙_}
-use borrow.Author.Tests.{ne-eqb}
+use lib.Dec.{leb}
+use borrow.Author.Tests.{leb-true, ne-eqb}
 use Rattle.exhibits.specs.declared.Cell.{Cell}
 use Rattle.exhibits.specs.declared.Cell.the-variants.{Factor, Lfb, NoData}
 use Rattle.exhibits.specs.declared.Plume.{Plume}
@@ -12,10 +13,12 @@ use Rattle.exhibits.specs.declared.Gas.{Gas}
 use Rattle.exhibits.specs.declared.Liquid.{Liquid}
 use Rattle.exhibits.specs.declared.Line.{Line}
 use Rattle.exhibits.specs.declared.Toxic.{Toxic}
-use Rattle.exhibits.specs.declared.Toxic.the-variants.{OfGas, OfLiquid, NotListed}
+use Rattle.exhibits.specs.declared.Toxic.the-variants.{OfGas, OfLiquid, OfSolution, OutOfRange, NotListed}
+use Rattle.exhibits.specs.PrintedB1.{b1}
+use Rattle.exhibits.specs.PrintedB2.{b2}
 use Rattle.exhibits.specs.Exhibits.{toxicOf}
-use Rattle.exhibits.specs.Lines.{kindOf, denseOf, plumeFrom, codeOf, cellFrom, lineOf, gasFrom, liquidFrom}
-use Rattle.exhibits.specs.Laws.{CellWithin, Within, within}
+use Rattle.exhibits.specs.Lines.{kindOf, denseOf, plumeFrom, codeOf, cellFrom, lineOf, gasFrom, liquidFrom, solutionFrom}
+use Rattle.exhibits.specs.Laws.{CellWithin, Within, listed, within}
 
 plume-back : (p : Plume) → plumeFrom (denseOf p) ≡ p
 plume-back Neutral = refl
@@ -30,6 +33,8 @@ gas-back : (t : Toxic) → kindOf t ≡ 1 → OfGas (gasFrom (lineOf t)) ≡ t
 gas-back (OfGas g) k =
     λ i. OfGas (record { lfb = g .lfb; df = g .df; endpoint = g .endpoint; plume = plume-back (g .plume) i })
 gas-back (OfLiquid l) k = absurd (omega arith)
+gas-back (OfSolution s) k = absurd (omega arith)
+gas-back OutOfRange k = absurd (omega arith)
 gas-back NotListed k = absurd (omega arith)
 
 liquid-back : (t : Toxic) → Within t → kindOf t ≡ 2 → OfLiquid (liquidFrom (lineOf t)) ≡ t
@@ -49,12 +54,29 @@ liquid-back (OfLiquid l) w k =
         at50 = cell-back (l .corrections .at50) (w .at50-limit) i;
       };
     })
+liquid-back (OfSolution s) w k = absurd (omega arith)
+liquid-back OutOfRange w k = absurd (omega arith)
 liquid-back NotListed w k = absurd (omega arith)
 
-none-back : (t : Toxic) → (kindOf t ≡ 1 → ⊥) → (kindOf t ≡ 2 → ⊥) → NotListed ≡ t
-none-back (OfGas g) no1 no2 = absurd (no1 refl)
-none-back (OfLiquid l) no1 no2 = absurd (no2 refl)
-none-back NotListed no1 no2 = refl
+pub solution-back : (t : Toxic) → kindOf t ≡ 3 → OfSolution (solutionFrom (lineOf t)) ≡ t
+solution-back (OfGas g) k = absurd (omega arith)
+solution-back (OfLiquid l) k = absurd (omega arith)
+solution-back (OfSolution s) k =
+    λ i. OfSolution (record { lfa = s .lfa; df = s .df; endpoint = s .endpoint; plume = plume-back (s .plume) i })
+solution-back OutOfRange k = absurd (omega arith)
+solution-back NotListed k = absurd (omega arith)
+
+pub none-back : (t : Toxic) → kindOf t ≡ 0 → NotListed ≡ t
+none-back (OfGas g) k = absurd (omega arith)
+none-back (OfLiquid l) k = absurd (omega arith)
+none-back (OfSolution s) k = absurd (omega arith)
+none-back OutOfRange k = absurd (omega arith)
+none-back NotListed k = refl
+
+-- B-1 and B-2 know no solution
+pure : (cas : ℕ) → kindOf (toxicOf cas) ≤ 2
+unfolding b1 b2
+pure cas = leb-true (kindOf (toxicOf cas)) 2 (listed (λ t. leb (kindOf t) 2) refl refl refl cas)
 
 -- the three exits of `toxic_of`, from the line of its CAS number
 module _ (cas : ℕ) (l : Line) (e : l ≡ lineOf (toxicOf cas)) where
@@ -70,4 +92,4 @@ module _ (cas : ℕ) (l : Line) (e : l ≡ lineOf (toxicOf cas)) where
       ∙ (ap (λ (y : Line). OfLiquid (liquidFrom y)) e ∙ liquid-back (toxicOf cas) (within cas) (omega (arith, kind-is)))
 
   pub none-is : (l .kind ≡ 1 → ⊥) → (l .kind ≡ 2 → ⊥) → NotListed ≡ toxicOf cas
-  none-is no1 no2 = none-back (toxicOf cas) (λ k. no1 (kind-is ∙ k)) (λ k. no2 (kind-is ∙ k))
+  none-is no1 no2 = none-back (toxicOf cas) (omega (arith, kind-is, pure cas))

@@ -1,1 +1,2 @@
 mod Back
+mod Steps

@@ -6,17 +6,22 @@ use mathlib.Core.List.{List, _++_, map}
 use mathlib.Core.Bool.{Bool, true, false}
 use lib.Dec.{leb, ltb}
 use borrow.Author.Tests.{leb-true, ltb-true}
+use Rattle.search.specs.Rising.{both}
+use Rattle.search.specs.Laws.{both-true}
 use Rattle.search.specs.Places.{among, every, lookUp}
 use Rattle.search.specs.Arms.{Missed, missed}
 use Rattle.search.specs.PlaceLaws.{among-apart, among-each, look-none, look-each}
 use Rattle.exhibits.specs.declared.Cell.{Cell}
 use Rattle.exhibits.specs.declared.Cell.the-variants.{Factor, Lfb, NoData}
 use Rattle.exhibits.specs.declared.Toxic.{Toxic}
-use Rattle.exhibits.specs.declared.Toxic.the-variants.{OfGas, OfLiquid, NotListed}
+use Rattle.exhibits.specs.declared.Toxic.the-variants.{OfGas, OfLiquid, OfSolution, OutOfRange, NotListed}
 use Rattle.exhibits.specs.PrintedB1.{b1}
 use Rattle.exhibits.specs.PrintedB2.{b2}
+use Rattle.exhibits.specs.PrintedB3.{b3}
 use Rattle.exhibits.specs.PrintedB4.{b4}
 use Rattle.exhibits.specs.Exhibits.{gasCas, liquidCas, gasIn, liquidIn, factorsOf, toxicOf}
+use Rattle.exhibits.specs.Solutions.{solutionOf}
+use Rattle.exhibits.specs.SolutionLaws.{dissolved}
 use Rattle.exhibits.specs.Lines.{lfaOf, lfbOf, dfOf, correctionsOf, lineOf}
 
 -- a CAS number that is in neither exhibit
@@ -75,35 +80,72 @@ pub record Within (t : Toxic) : Type 0 where
   pub at45-limit : CellWithin (correctionsOf t .at45)
   pub at50-limit : CellWithin (correctionsOf t .at50)
 
+-- the same as a test that computes
+unfoldable fits : Toxic → Bool
+fits t =
+    both (leb (lfaOf t) 1000000)
+    (both (leb (lfbOf t) 1000000)
+    (both (leb (dfOf t) 200)
+    (both (cellFits (correctionsOf t .at30))
+    (both (cellFits (correctionsOf t .at35))
+    (both (cellFits (correctionsOf t .at40))
+    (both (cellFits (correctionsOf t .at45)) (cellFits (correctionsOf t .at50))))))))
+
+fits-within : (t : Toxic) → fits t ≡ true → Within t
+unfolding fits
+fits-within t e =
+    let a = both-true (leb (lfaOf t) 1000000) _ e in
+    let b = both-true (leb (lfbOf t) 1000000) _ (a .1) in
+    let d = both-true (leb (dfOf t) 200) _ (b .1) in
+    let at30 = both-true (cellFits (correctionsOf t .at30)) _ (d .1) in
+    let at35 = both-true (cellFits (correctionsOf t .at35)) _ (at30 .1) in
+    let at40 = both-true (cellFits (correctionsOf t .at40)) _ (at35 .1) in
+    let at45 = both-true (cellFits (correctionsOf t .at45)) _ (at40 .1) in
+    record {
+      lfa-limit = leb-true (lfaOf t) 1000000 (a .0);
+      lfb-limit = leb-true (lfbOf t) 1000000 (b .0);
+      df-limit = leb-true (dfOf t) 200 (d .0);
+      at30-limit = cell-within (correctionsOf t .at30) (at30 .0);
+      at35-limit = cell-within (correctionsOf t .at35) (at35 .0);
+      at40-limit = cell-within (correctionsOf t .at40) (at40 .0);
+      at45-limit = cell-within (correctionsOf t .at45) (at45 .0);
+      at50-limit = cell-within (correctionsOf t .at50) (at45 .1);
+    }
+
 pub within : (cas : ℕ) → Within (toxicOf cas)
-unfolding factorsOf lookUp b1 b2 b4
-within cas = record {
-  lfa-limit = leb-true (lfaOf (toxicOf cas)) 1000000 (listed (λ t. leb (lfaOf t) 1000000) refl refl refl cas);
-  lfb-limit = leb-true (lfbOf (toxicOf cas)) 1000000 (listed (λ t. leb (lfbOf t) 1000000) refl refl refl cas);
-  df-limit = leb-true (dfOf (toxicOf cas)) 200 (listed (λ t. leb (dfOf t) 200) refl refl refl cas);
-  at30-limit = cell-within (correctionsOf (toxicOf cas) .at30) (listed (λ t. cellFits (correctionsOf t .at30)) refl refl refl cas);
-  at35-limit = cell-within (correctionsOf (toxicOf cas) .at35) (listed (λ t. cellFits (correctionsOf t .at35)) refl refl refl cas);
-  at40-limit = cell-within (correctionsOf (toxicOf cas) .at40) (listed (λ t. cellFits (correctionsOf t .at40)) refl refl refl cas);
-  at45-limit = cell-within (correctionsOf (toxicOf cas) .at45) (listed (λ t. cellFits (correctionsOf t .at45)) refl refl refl cas);
-  at50-limit = cell-within (correctionsOf (toxicOf cas) .at50) (listed (λ t. cellFits (correctionsOf t .at50)) refl refl refl cas);
-}
+unfolding fits factorsOf lookUp b1 b2 b4
+within cas = fits-within (toxicOf cas) (listed fits refl refl refl cas)
+
+pub solution-within : (cas tenths : ℕ) → Within (solutionOf cas tenths)
+unfolding fits b3
+solution-within cas tenths = fits-within (solutionOf cas tenths) (dissolved fits refl refl refl cas tenths)
 
 -- no endpoint is zero, so a rate may be divided by it
 abbrev pub Positive : Toxic → Type 0
 Positive (OfGas g) = 1 ≤ g .endpoint
 Positive (OfLiquid l) = 1 ≤ l .endpoint
+Positive (OfSolution s) = 1 ≤ s .endpoint
+Positive OutOfRange = Unit {0}
 Positive NotListed = Unit {0}
 
 abbrev hasEndpoint : Toxic → Bool
 hasEndpoint (OfGas g) = leb 1 (g .endpoint)
 hasEndpoint (OfLiquid l) = leb 1 (l .endpoint)
+hasEndpoint (OfSolution s) = leb 1 (s .endpoint)
+hasEndpoint OutOfRange = true
 hasEndpoint NotListed = true
 
 above-zero : (t : Toxic) → hasEndpoint t ≡ true → Positive t
 above-zero (OfGas g) e = leb-true 1 (g .endpoint) e
 above-zero (OfLiquid l) e = leb-true 1 (l .endpoint) e
+above-zero (OfSolution s) e = leb-true 1 (s .endpoint) e
+above-zero OutOfRange e = tt
 above-zero NotListed e = tt
 
 pub positive : (cas : ℕ) → Positive (toxicOf cas)
 unfolding b1 b2
 positive cas = above-zero (toxicOf cas) (listed hasEndpoint refl refl refl cas)
+
+pub solution-positive : (cas tenths : ℕ) → Positive (solutionOf cas tenths)
+unfolding b3
+solution-positive cas tenths = above-zero (solutionOf cas tenths) (dissolved hasEndpoint refl refl refl cas tenths)

@@ -2,7 +2,9 @@
 -- Assumes nothing.
 use Prim.Native.Nat.{ℕ}
 use mathlib.Core.Bool.{Bool, true, false}
+use mathlib.Core.List.{map}
 use lib.Dec.{eqb}
+use Rattle.search.specs.Places.{among}
 use Rattle.exhibits.specs.declared.Cell.{Cell}
 use Rattle.exhibits.specs.declared.Cell.the-variants.{Factor, Lfb, NoData}
 use Rattle.exhibits.specs.declared.Plume.{Plume}
@@ -10,46 +12,63 @@ use Rattle.exhibits.specs.declared.Plume.the-variants.{Neutral, Dense}
 use Rattle.exhibits.specs.declared.Corrections.{Corrections}
 use Rattle.exhibits.specs.declared.Gas.{Gas}
 use Rattle.exhibits.specs.declared.Liquid.{Liquid}
+use Rattle.exhibits.specs.declared.Solution.{Solution}
 use Rattle.exhibits.specs.declared.Line.{Line}
 use Rattle.exhibits.specs.declared.Toxic.{Toxic}
-use Rattle.exhibits.specs.declared.Toxic.the-variants.{OfGas, OfLiquid, NotListed}
+use Rattle.exhibits.specs.declared.Toxic.the-variants.{OfGas, OfLiquid, OfSolution, OutOfRange, NotListed}
+use Rattle.exhibits.specs.PrintedB3.{b3}
 use Rattle.exhibits.specs.Exhibits.{noData}
+use Rattle.exhibits.specs.Solutions.{solutionCas, linesOf, lowest, lineRead}
 
 -- the fields of a substance; one that it does not have is kept as 0, or as no data. Its kind is 1 for a gas of B-1, 2 for a
--- liquid of B-2, 0 for neither.
+-- liquid of B-2, 3 for a solution of B-3, 4 for one above the highest concentration there, 0 for none.
 abbrev pub kindOf : Toxic → ℕ
 kindOf (OfGas g) = 1
 kindOf (OfLiquid l) = 2
+kindOf (OfSolution s) = 3
+kindOf OutOfRange = 4
 kindOf NotListed = 0
 
 abbrev pub lfaOf : Toxic → ℕ
 lfaOf (OfGas g) = 0
 lfaOf (OfLiquid l) = l .lfa
+lfaOf (OfSolution s) = s .lfa
+lfaOf OutOfRange = 0
 lfaOf NotListed = 0
 
 abbrev pub lfbOf : Toxic → ℕ
 lfbOf (OfGas g) = g .lfb
 lfbOf (OfLiquid l) = l .lfb
+lfbOf (OfSolution s) = 0
+lfbOf OutOfRange = 0
 lfbOf NotListed = 0
 
 abbrev pub dfOf : Toxic → ℕ
 dfOf (OfGas g) = g .df
 dfOf (OfLiquid l) = l .df
+dfOf (OfSolution s) = s .df
+dfOf OutOfRange = 0
 dfOf NotListed = 0
 
 abbrev pub endpointOf : Toxic → ℕ
 endpointOf (OfGas g) = g .endpoint
 endpointOf (OfLiquid l) = l .endpoint
+endpointOf (OfSolution s) = s .endpoint
+endpointOf OutOfRange = 0
 endpointOf NotListed = 0
 
 abbrev pub plumeOf : Toxic → Plume
 plumeOf (OfGas g) = g .plume
 plumeOf (OfLiquid l) = l .plume
+plumeOf (OfSolution s) = s .plume
+plumeOf OutOfRange = Neutral
 plumeOf NotListed = Neutral
 
 abbrev pub correctionsOf : Toxic → Corrections
 correctionsOf (OfGas g) = noData
 correctionsOf (OfLiquid l) = l .corrections
+correctionsOf (OfSolution s) = noData
+correctionsOf OutOfRange = noData
 correctionsOf NotListed = noData
 
 -- a plume as a number, and back
@@ -93,7 +112,7 @@ lineOf t = record {
   at50 = codeOf (correctionsOf t .at50);
 }
 
--- the cells, the gas and the liquid of a line
+-- the cells, the gas, the liquid and the solution of a line
 abbrev pub correctionsFrom : Line → Corrections
 correctionsFrom l = record {
   at30 = cellFrom (l .at30);
@@ -115,3 +134,11 @@ liquidFrom l = record {
   plume = plumeFrom (l .dense);
   corrections = correctionsFrom l;
 }
+
+abbrev pub solutionFrom : Line → Solution
+solutionFrom l = record { lfa = l .lfa; df = l .df; endpoint = l .endpoint; plume = plumeFrom (l .dense) }
+
+-- what is read of Exhibit B-3 before it is asked whether the concentration is zero: the line that the code finds
+unfoldable pub readAt : ℕ → ℕ → Toxic
+readAt cas tenths =
+    elim (among cas (map solutionCas b3)) [ true ↦ lineRead (lowest tenths (linesOf cas b3)) | false ↦ NotListed ]

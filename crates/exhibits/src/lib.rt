@@ -1,9 +1,11 @@
-// Exhibits B-1, B-2 and B-4: what they say of a toxic substance. A mark for no data is a case of its own, never a number.
+// Exhibits B-1 to B-4: what they say of a toxic substance. A mark for no data is a case of its own, never a number.
+mod solutions;
 mod tables;
 
 ghost use mathlib.Core.Path.{_≡_};
 ghost use Rattle.exhibits.specs.Exhibits.{toxicOf};
-ghost use Rattle.exhibits.specs.Lines.{plumeFrom, cellFrom, correctionsFrom, gasFrom, liquidFrom};
+ghost use Rattle.exhibits.specs.Solutions.{solutionOf};
+ghost use Rattle.exhibits.specs.Lines.{plumeFrom, cellFrom, correctionsFrom, gasFrom, liquidFrom, solutionFrom};
 
 // How the worst-case plume behaves in air.
 pub enum Plume {
@@ -45,15 +47,26 @@ pub struct Liquid {
     pub corrections: Corrections,
 }
 
-// What the exhibits say of a CAS number.
+// A water solution, or oleum, at a concentration: LFA in millionths, DF in hundredths, the endpoint in hundred-thousandths of mg/L.
+pub struct Solution {
+    pub lfa: u32,
+    pub df: u8,
+    pub endpoint: u32,
+    pub plume: Plume,
+}
+
+// What the exhibits say of a CAS number, and of a solution's concentration, which may be out of range.
 pub enum Toxic {
     OfGas(Gas),
     OfLiquid(Liquid),
+    OfSolution(Solution),
+    OutOfRange,
     NotListed,
 }
 
-// The exhibits' line of a substance, in numbers: 1 for a gas of B-1, 2 for a liquid of B-2, 0 for neither; 1 for a dense plume;
-// a cell of B-4 as a factor, 65534 for LFB or 65535 for no data.
+// The exhibits' line of a substance, in numbers: 1 for a gas of B-1, 2 for a liquid of B-2, 3 for a solution of B-3, 4 for one
+// above the highest concentration there, 0 for none; 1 for a dense plume; a cell of B-4 as a factor, 65534 for LFB or 65535 for
+// no data.
 struct Line {
     kind: u8,
     lfa: u32,
@@ -138,4 +151,32 @@ pub fn toxic_of(cas: u32) -> Toxic
         return Toxic::OfLiquid(liquid_in(line));
     }
     Toxic::NotListed
+}
+
+fn solution_in(line: Line) -> Solution
+    ensures { λ r. ⌜ r ≡ solutionFrom line ⌝ }
+{
+    Solution {
+        lfa: line.lfa,
+        df: line.df,
+        endpoint: line.endpoint,
+        plume: plume_from(line.dense),
+    }
+}
+
+// What Exhibit B-3 says of this CAS number at a concentration in tenths of a percent.
+pub fn solution_of(cas: u32, tenths: u16) -> Toxic
+    ensures { λ r. ⌜ r ≡ solutionOf cas tenths ⌝ }
+{
+    let line = solutions::line_of(cas, tenths);
+    if line.kind == 0 {
+        return Toxic::NotListed;
+    }
+    if tenths == 0 {
+        return Toxic::OutOfRange;
+    }
+    if line.kind == 3 {
+        return Toxic::OfSolution(solution_in(line));
+    }
+    Toxic::OutOfRange
 }

@@ -1,0 +1,15 @@
+-- `exhibits::solution_in` meets its contract: the plume is read back from its number. Assumes nothing.
+use borrow.Author.Needs.{needs}
+use Rattle.exhibits.proofs.solution_in.Statement.{statement}
+use Rattle.exhibits.proofs.solution_in.Tie as tie
+
+plume-from-requires : tie.Need-plume-from-requires
+plume-from-requires c κs = search needs
+
+returns : tie.Need-returns
+returns c =
+    let l = c .before .args .line in
+    λ i. record { lfa = l .lfa; df = l .df; endpoint = l .endpoint; plume = c .plume-from .ensures i }
+
+pub solution-in-spec : {M : Type 1} → statement M
+solution-in-spec = tie.close (tie.spec plume-from-requires returns)
