@@ -16,7 +16,6 @@ use Rattle.units.specs.declared.Reading.the-variants as reading
 use Rattle.dispersion.specs.declared.Ground.{Ground}
 use Rattle.dispersion.specs.Tables.{readingOf}
 use Rattle.dispersion.specs.Laws.{reading-mono}
-use Rattle.exhibits.specs.Exhibits.{toxicOf}
 use Rattle.blast.specs.Blast.{blastReading}
 use Rattle.blast.specs.Laws.{blast-mono}
 use Rattle.scenario.specs.declared.State.{State}
@@ -38,8 +37,8 @@ use Rattle.meaning.specs.declared.Meaning.{Meaning}
 use Rattle.meaning.specs.declared.Meaning.the-variants as meaning
 use Rattle.form.specs.Form.{stateOf, groundOf, heldOf, shapeOf}
 use Rattle.form.specs.Inverse.{held-looser}
-use Rattle.meaning.specs.Reading.{signed, badNumber, meaningIf, shaped, meaningOf}
-use Rattle.meaning.specs.Inverse.{ToxicFrom, FlammableFrom, toxic-from, flammable-from}
+use Rattle.meaning.specs.Reading.{badNumber, meaningIf, shaped, meaningOf}
+use Rattle.meaning.specs.Inverse.{ToxicFrom, FlammableFrom, toxic-from, flammable-from, same-entry, same-tenths}
 use Rattle.card.specs.declared.Class.{Class}
 use Rattle.card.specs.declared.Class.the-variants as class
 use Rattle.card.specs.declared.Answer.{Answer}
@@ -69,7 +68,8 @@ tableOf card = tableIn (answerOf card 0)
 
 -- A counterpart, document 01's own term (demand 3), from the bytes of two cards, field by field: "Substance means kind and
 -- CAS number, quantity the pounds, temperature bytes 18 and 19, kind of containment byte 3. Area and wall matter in a dike,
--- the floor in a building."
+-- the floor in a building." Bytes 18 and 19 are in state 5 the concentration: document 02's "Ring ordering needs equal
+-- concentration" is the same equation.
 pub record Counterpart (x y : List ℕ) : Type 0 where
   pub kind : byteAt x 0 ≡ byteAt y 0
   pub cas : fourAt x 4 ≡ fourAt y 4
@@ -207,10 +207,10 @@ fuller : {f g : Fields} {a b : ToxicCard} → SameFields f g → ToxicFrom f a �
 fuller {f} {g} {a} {b} s p q =
     record {
       cas = sym (p .cas) ∙ (s .cas ∙ q .cas);
-      entry = sym (p .entry) ∙ (ap toxicOf (s .cas) ∙ q .entry);
+      entry = sym (p .entry) ∙ (same-entry f g (s .cas) (s .state) (s .heat) ∙ q .entry);
       state = state-is (sym (p .state) ∙ (ap stateOf (s .state) ∙ q .state));
       ground = ground-is (sym (p .ground) ∙ (ap groundOf (s .ground) ∙ q .ground));
-      temperature = sym (p .temperature) ∙ (ap signed (s .heat) ∙ q .temperature);
+      tenths = sym (p .tenths) ∙ (same-tenths f g (s .cas) (s .state) (s .heat) ∙ q .tenths);
       quantity = rw (← (p .quantity), ← (q .quantity)) (s .quantity);
       containment =
           held-looser (f .containment) (f .area) (f .wall) (g .area) (g .wall) (s .dike) (s .floor) (p .held)

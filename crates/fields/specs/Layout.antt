@@ -7,7 +7,7 @@ use Rattle.buffer.specs.Numbers.{byteAt, twoAt, fourAt}
 use Rattle.fields.specs.declared.Fields.{Fields}
 
 -- 0: kind. 1: state. 2: ground. 3: containment. 4 to 7: CAS number. 8 to 11: pounds. 12 to 15: dike or floor area.
--- 16, 17: wall. 18, 19: temperature, still unsigned. 20 to 23: card number.
+-- 16, 17: wall. 18, 19: temperature, or in state 5 concentration (document 02, A3), still unsigned. 20 to 23: card number.
 unfoldable pub fieldsOf : List ℕ → Fields
 fieldsOf bytes =
     record {

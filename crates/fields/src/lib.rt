@@ -11,7 +11,7 @@ pub struct Fields {
     pub pounds: u32,
     pub area: u32,
     pub wall: u16,
-    // the temperature's two bytes, still unsigned
+    // the two bytes of the temperature, or in state 5 of the concentration, still unsigned
     pub heat: u16,
     pub number: u32,
 }

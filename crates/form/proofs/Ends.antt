@@ -15,7 +15,7 @@ use Rattle.dispersion.specs.declared.Ground.the-variants.{Rural, Urban}
 use Rattle.release.specs.declared.Containment.{Containment}
 use Rattle.release.specs.declared.Containment.the-variants.{Open, Dike, Building}
 use Rattle.scenario.specs.declared.State.{State}
-use Rattle.scenario.specs.declared.State.the-variants.{Gas, Pressurized, Refrigerated, Liquid}
+use Rattle.scenario.specs.declared.State.the-variants.{Gas, Pressurized, Refrigerated, Liquid, Solution}
 use Rattle.fields.specs.declared.Fields.{Fields}
 use Rattle.refusals.specs.declared.Refusal.the-variants as refusal
 use Rattle.form.specs.declared.StateByte.{StateByte}
@@ -58,9 +58,13 @@ module _ (b : ℕ) where
   unfolding stateOf
   state-4 n m k e = simp (ne-eqb b 1 n, ne-eqb b 2 m, ne-eqb b 3 k, eq-eqb b 4 e, stateOf)
 
-  pub no-state : (b ≡ 1 → ⊥) → (b ≡ 2 → ⊥) → (b ≡ 3 → ⊥) → (b ≡ 4 → ⊥) → stateByte.Unlisted ≡ stateOf b
+  pub state-5 : (b ≡ 1 → ⊥) → (b ≡ 2 → ⊥) → (b ≡ 3 → ⊥) → (b ≡ 4 → ⊥) → b ≡ 5 → stateByte.Is Solution ≡ stateOf b
   unfolding stateOf
-  no-state n m k l = simp (ne-eqb b 1 n, ne-eqb b 2 m, ne-eqb b 3 k, ne-eqb b 4 l, stateOf)
+  state-5 n m k l e = simp (ne-eqb b 1 n, ne-eqb b 2 m, ne-eqb b 3 k, ne-eqb b 4 l, eq-eqb b 5 e, stateOf)
+
+  pub no-state : (b ≡ 1 → ⊥) → (b ≡ 2 → ⊥) → (b ≡ 3 → ⊥) → (b ≡ 4 → ⊥) → (b ≡ 5 → ⊥) → stateByte.Unlisted ≡ stateOf b
+  unfolding stateOf
+  no-state n m k l j = simp (ne-eqb b 1 n, ne-eqb b 2 m, ne-eqb b 3 k, ne-eqb b 4 l, ne-eqb b 5 j, stateOf)
 
 -- byte 3, the area and the wall
 module _ (b area wall : ℕ) where

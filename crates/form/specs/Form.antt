@@ -7,7 +7,7 @@ use Rattle.search.specs.Rising.{both}
 use Rattle.dispersion.specs.declared.Ground.the-variants.{Rural, Urban}
 use Rattle.release.specs.declared.Containment.the-variants.{Open, Dike, Building}
 use Rattle.scenario.specs.declared.State.{State}
-use Rattle.scenario.specs.declared.State.the-variants.{Gas, Pressurized, Refrigerated, Liquid}
+use Rattle.scenario.specs.declared.State.the-variants.{Gas, Pressurized, Refrigerated, Liquid, Solution}
 use Rattle.fields.specs.declared.Fields.{Fields}
 use Rattle.refusals.specs.declared.Refusal.the-variants as refusal
 use Rattle.form.specs.declared.StateByte.{StateByte}
@@ -20,7 +20,8 @@ use Rattle.form.specs.declared.Standing.{Standing}
 use Rattle.form.specs.declared.Shape.{Shape}
 use Rattle.form.specs.declared.Shape.the-variants as shape
 
--- "1: state, 1 gas, 2 gas liquefied under pressure, 3 gas liquefied by refrigeration alone, 4 liquid."
+-- "1: state, 1 gas, 2 gas liquefied under pressure, 3 gas liquefied by refrigeration alone, 4 liquid"; document 02, A3: "State 5 is
+-- a solution of a B-3 substance"
 unfoldable pub stateOf : ℕ → StateByte
 stateOf b =
     elim (eqb b 1) [
@@ -31,7 +32,11 @@ stateOf b =
             | false ↦
                 elim (eqb b 3) [
                   | true ↦ stateByte.Is Refrigerated
-                  | false ↦ elim (eqb b 4) [ true ↦ stateByte.Is Liquid | false ↦ stateByte.Unlisted ]
+                  | false ↦
+                      elim (eqb b 4) [
+                        | true ↦ stateByte.Is Liquid
+                        | false ↦ elim (eqb b 5) [ true ↦ stateByte.Is Solution | false ↦ stateByte.Unlisted ]
+                      ]
                 ]
           ]
     ]
@@ -63,12 +68,13 @@ heldOf b area wall =
           ]
     ]
 
--- "18, 19: .. for state 4; zero otherwise"
+-- "18, 19: .. for state 4; zero otherwise"; in state 5 the concentration "takes the temperature's place"
 abbrev pub heatFits : State → ℕ → Bool
 heatFits Gas heat = eqb heat 0
 heatFits Pressurized heat = eqb heat 0
 heatFits Refrigerated heat = eqb heat 0
 heatFits Liquid heat = true
+heatFits Solution heat = true
 
 -- a toxic card's bytes 1 to 3 and must-be-zero fields, one after the other
 abbrev pub shapedHeat : Bool → Standing → Shape

@@ -14,7 +14,7 @@ use Rattle.dispersion.specs.declared.Ground.the-variants.{Rural, Urban}
 use Rattle.release.specs.declared.Containment.{Containment}
 use Rattle.release.specs.declared.Containment.the-variants.{Open, Dike, Building}
 use Rattle.scenario.specs.declared.State.{State}
-use Rattle.scenario.specs.declared.State.the-variants.{Gas, Pressurized, Refrigerated, Liquid}
+use Rattle.scenario.specs.declared.State.the-variants.{Gas, Pressurized, Refrigerated, Liquid, Solution}
 use Rattle.fields.specs.declared.Fields.{Fields}
 use Rattle.form.specs.declared.StateByte.{StateByte}
 use Rattle.form.specs.declared.StateByte.the-variants as stateByte
@@ -40,6 +40,7 @@ stateIn (stateByte.Is Gas) = 1
 stateIn (stateByte.Is Pressurized) = 2
 stateIn (stateByte.Is Refrigerated) = 3
 stateIn (stateByte.Is Liquid) = 4
+stateIn (stateByte.Is Solution) = 5
 stateIn stateByte.Unlisted = 0
 
 pub state-byte : (b : ℕ) {s : State} → stateOf b ≡ stateByte.Is s → b ≡ stateIn (stateByte.Is s)
@@ -49,7 +50,8 @@ state-byte b e =
     (λ q. by-test b 2 q (λ p q. p ∙ ap stateIn q)
     (λ q. by-test b 3 q (λ p q. p ∙ ap stateIn q)
     (λ q. by-test b 4 q (λ p q. p ∙ ap stateIn q)
-    (λ q. clash (cc)))))
+    (λ q. by-test b 5 q (λ p q. p ∙ ap stateIn q)
+    (λ q. clash (cc))))))
 
 -- the byte that a ground is read from
 abbrev pub groundIn : GroundByte → ℕ

@@ -56,6 +56,9 @@ fn state_of(byte: u8) -> StateByte
     if byte == 4 {
         return StateByte::Is(State::Liquid);
     }
+    if byte == 5 {
+        return StateByte::Is(State::Solution);
+    }
     StateByte::Unlisted
 }
 
@@ -107,6 +110,7 @@ fn heat_fits(state: State, heat: u16) -> bool
         State::Pressurized => heat == 0,
         State::Refrigerated => heat == 0,
         State::Liquid => true,
+        State::Solution => true,
     }
 }
 

@@ -4,9 +4,9 @@
 use Prim.Native.Nat.{ℕ, zero, suc, _-_, _≤_, _<_}
 use native.Mathlib.Omega.{arith}
 use native.Mathlib.Nat.{zero-add}
-use mathlib.Core.Path.{_≡_, _∙_, refl, ap, sym, subst}
+use mathlib.Core.Path.{_≡_, _∙_, refl, ap, ap₂, sym, subst}
 use mathlib.Core.Bool.{Bool, true, false, not}
-use lib.Dec.{leb, ltb}
+use lib.Dec.{leb, ltb, eqb}
 use lib.IntN.{ℤ, pos, negsuc, _-ℤ_}
 use lib.Signed.{ltZ}
 use mir.Syntax.{w16}
@@ -16,7 +16,10 @@ use borrow.Author.Tests.{eq-eqb, ne-eqb, lt-ltb, le-ltb}
 use Rattle.units.specs.declared.Pounds.{Pounds}
 use Rattle.exhibits.specs.declared.Toxic.{Toxic}
 use Rattle.exhibits.specs.Exhibits.{toxicOf}
-use Rattle.exhibits.specs.Laws.{Within, within}
+use Rattle.exhibits.specs.Solutions.{solutionOf}
+use Rattle.exhibits.specs.Laws.{Within, within, solution-within}
+use Rattle.scenario.specs.declared.Tenths.{Tenths}
+use Rattle.scenario.specs.declared.Tenths.the-variants.{Temperature, Concentration}
 use Rattle.scenario.specs.Plan.{Limits}
 use Rattle.blast.specs.Blast.{isFlammable}
 use Rattle.fields.specs.declared.Fields.{Fields}
@@ -29,7 +32,7 @@ use Rattle.meaning.specs.declared.Bounds.{Bounds}
 use Rattle.meaning.specs.declared.Bounds.the-variants as bounds
 use Rattle.meaning.specs.declared.Meaning.{Meaning}
 use Rattle.meaning.specs.declared.Meaning.the-variants as meaning
-use Rattle.meaning.specs.Reading.{badNumber, badPounds, badArea, badWall, badHeat, signed, boundsOf, boundsRefusal, BoundsLimits, toxicBounded, isListed, toxicMeaning, flammableOf, shaped, meaningOf}
+use Rattle.meaning.specs.Reading.{badNumber, badPounds, badArea, badWall, badHeat, signed, tenthsOf, badTenths, substanceOf, isOutOfRange, boundsIf, boundsOf, boundsRefusal, BoundsLimits, toxicBounded, isListed, toxicMeaning, flammableOf, shaped, meaningOf}
 use Rattle.meaning.specs.Ranges.{pounds-within}
 
 -- the area
@@ -99,52 +102,89 @@ pub heat-high : (t : ℤ) (r : Bool) → ltZ t (negsuc 499) ≡ false → ltZ (p
 unfolding badHeat
 heat-high t r e q = simp e (sym q)
 
--- 8, 9, 14 and 15 in turn
+-- what bytes 18 and 19 are, and what the exhibits say
 module _ (f : Fields) where
-  pub bounds-pounds : (b : Bool) → b ≡ badPounds (f .pounds) → b ≡ true → bounds.Refused refusal.Quantity ≡ boundsOf f
+  pub concentration : f .state ≡ 5 → Concentration (f .heat) ≡ tenthsOf f
+  unfolding tenthsOf
+  concentration e = simp (eq-eqb (f .state) 5 e, tenthsOf)
+
+  -- a temperature that was handed on by its bits
+  pub temperature : (t : ℤ) → SFits w16 t → (f .state ≡ 5 → ⊥) → t ≡ signed (f .heat) → Temperature (toZ w16 (ofZ w16 t)) ≡ tenthsOf f
+  unfolding tenthsOf
+  temperature t fits n e = simp (ne-eqb (f .state) 5 n, tenthsOf) (ap Temperature (toZ-ofZ fits ∙ e))
+
+  pub entry-dissolved : (x : Toxic) → f .state ≡ 5 → x ≡ solutionOf (f .cas) (f .heat) → x ≡ substanceOf f
+  unfolding substanceOf
+  entry-dissolved x e q = simp (eq-eqb (f .state) 5 e, substanceOf) q
+
+  pub entry-pure : (x : Toxic) → (f .state ≡ 5 → ⊥) → x ≡ toxicOf (f .cas) → x ≡ substanceOf f
+  unfolding substanceOf
+  entry-pure x n q = simp (ne-eqb (f .state) 5 n, substanceOf) q
+
+  entry-within : Within (substanceOf f)
+  unfolding substanceOf
+  entry-within = go (eqb (f .state) 5)
+    where
+      go : (t : Bool) → Within (elim t as (λ _. Toxic) [ true ↦ solutionOf (f .cas) (f .heat) | false ↦ toxicOf (f .cas) ])
+      go true = solution-within (f .cas) (f .heat)
+      go false = within (f .cas)
+
+pub degrees-bad : (x : Tenths) (t : ℤ) (b : Bool) → SFits w16 t → x ≡ Temperature t → b ≡ badHeat (toZ w16 (ofZ w16 t)) → b ≡ badTenths x
+degrees-bad x t b fits e q = q ∙ (ap badHeat (toZ-ofZ fits) ∙ ap badTenths (sym e))
+
+-- 8, 9, 14, 15 and 16 in turn
+module _ (f : Fields) (x : Toxic) where
+  pub bounds-pounds : (b : Bool) → b ≡ badPounds (f .pounds) → b ≡ true → bounds.Refused refusal.Quantity ≡ boundsOf x f
   unfolding boundsOf
   bounds-pounds b e q = let p : badPounds (f .pounds) ≡ true = sym e ∙ q in simp p
 
-  pub bounds-area : (b d : Bool) → b ≡ badPounds (f .pounds) → b ≡ false → d ≡ badArea (f .containment) (f .area) → d ≡ true → bounds.Refused refusal.Area ≡ boundsOf f
+  pub bounds-area : (b d : Bool) → b ≡ badPounds (f .pounds) → b ≡ false → d ≡ badArea (f .containment) (f .area) → d ≡ true → bounds.Refused refusal.Area ≡ boundsOf x f
   unfolding boundsOf
   bounds-area b d e q g r =
       let p : badPounds (f .pounds) ≡ false = sym e ∙ q in
       let s : badArea (f .containment) (f .area) ≡ true = sym g ∙ r in
       simp (p, s)
 
-  pub bounds-wall : (b d : Bool) → b ≡ badPounds (f .pounds) → b ≡ false → d ≡ badArea (f .containment) (f .area) → d ≡ false → 10_000 < f .wall → bounds.Refused refusal.Wall ≡ boundsOf f
-  unfolding boundsOf badWall
-  bounds-wall b d e q g r w =
-      let p : badPounds (f .pounds) ≡ false = sym e ∙ q in
-      let s : badArea (f .containment) (f .area) ≡ false = sym g ∙ r in
-      let u : badWall (f .wall) ≡ true = lt-ltb 10_000 (f .wall) w in
-      simp (p, s, u)
+  -- the checks of bytes 18 and 19, where the wall is in range or not
+  abbrev behind : Bool → Bool → Bool → Tenths → Bounds
+  behind wall heat out t =
+      boundsIf wall refusal.Wall (boundsIf heat refusal.Temperature (boundsIf out refusal.Concentration (bounds.Within t)))
 
-  bounds-heat : (b d k : Bool) (t : ℤ) → b ≡ badPounds (f .pounds) → b ≡ false → d ≡ badArea (f .containment) (f .area) → d ≡ false → f .wall ≤ 10_000 → t ≡ signed (f .heat) → k ≡ badHeat t → k ≡ true → bounds.Refused refusal.Temperature ≡ boundsOf f
-  unfolding boundsOf badWall
-  bounds-heat b d k t e q g r w m h u =
-      let p : badPounds (f .pounds) ≡ false = sym e ∙ q in
-      let s : badArea (f .containment) (f .area) ≡ false = sym g ∙ r in
-      let x : badWall (f .wall) ≡ false = le-ltb 10_000 (f .wall) w in
-      let v : badHeat (signed (f .heat)) ≡ true = ap badHeat (sym m) ∙ (sym h ∙ u) in
-      simp (p, s, x, v)
+  -- what is left where the first two passed
+  module _ (b d : Bool) (e : b ≡ badPounds (f .pounds)) (q : b ≡ false) (g : d ≡ badArea (f .containment) (f .area)) (r : d ≡ false) where
+    behind-area : behind (badWall (f .wall)) (badTenths (tenthsOf f)) (isOutOfRange x) (tenthsOf f) ≡ boundsOf x f
+    unfolding boundsOf
+    behind-area =
+        let p : badPounds (f .pounds) ≡ false = sym e ∙ q in
+        let s : badArea (f .containment) (f .area) ≡ false = sym g ∙ r in
+        simp (p, s)
 
-  bounds-within : (b d k : Bool) (t : ℤ) → b ≡ badPounds (f .pounds) → b ≡ false → d ≡ badArea (f .containment) (f .area) → d ≡ false → f .wall ≤ 10_000 → t ≡ signed (f .heat) → k ≡ badHeat t → k ≡ false → bounds.Within t ≡ boundsOf f
-  unfolding boundsOf badWall
-  bounds-within b d k t e q g r w m h u =
-      let p : badPounds (f .pounds) ≡ false = sym e ∙ q in
-      let s : badArea (f .containment) (f .area) ≡ false = sym g ∙ r in
-      let x : badWall (f .wall) ≡ false = le-ltb 10_000 (f .wall) w in
-      let v : badHeat (signed (f .heat)) ≡ false = ap badHeat (sym m) ∙ (sym h ∙ u) in
-      simp (p, s, x, v) (ap bounds.Within m)
+    pub bounds-wall : 10_000 < f .wall → bounds.Refused refusal.Wall ≡ boundsOf x f
+    unfolding badWall
+    bounds-wall w =
+        ap (λ u. behind u (badTenths (tenthsOf f)) (isOutOfRange x) (tenthsOf f)) (sym (lt-ltb 10_000 (f .wall) w)) ∙ behind-area
 
-  -- the same where the temperature was handed on by its bits
-  pub heat-refused : (b d k : Bool) (t : ℤ) → SFits w16 t → b ≡ badPounds (f .pounds) → b ≡ false → d ≡ badArea (f .containment) (f .area) → d ≡ false → f .wall ≤ 10_000 → t ≡ signed (f .heat) → k ≡ badHeat (toZ w16 (ofZ w16 t)) → k ≡ true → bounds.Refused refusal.Temperature ≡ boundsOf f
-  heat-refused b d k t fits e q g r w m h u = bounds-heat b d k (toZ w16 (ofZ w16 t)) e q g r w (toZ-ofZ fits ∙ m) h u
+    -- and the wall
+    module _ (w : f .wall ≤ 10_000) (t : Tenths) (m : t ≡ tenthsOf f) (k : Bool) (h : k ≡ badTenths t) where
+      behind-wall : behind false k (isOutOfRange x) t ≡ boundsOf x f
+      unfolding badWall
+      behind-wall =
+          ap₂ (λ c u. behind false c (isOutOfRange x) u) (h ∙ ap badTenths m) m
+          ∙ (ap (λ u. behind u (badTenths (tenthsOf f)) (isOutOfRange x) (tenthsOf f)) (sym (le-ltb 10_000 (f .wall) w)) ∙ behind-area)
 
-  pub heat-within : (b d k : Bool) (t : ℤ) → SFits w16 t → b ≡ badPounds (f .pounds) → b ≡ false → d ≡ badArea (f .containment) (f .area) → d ≡ false → f .wall ≤ 10_000 → t ≡ signed (f .heat) → k ≡ badHeat (toZ w16 (ofZ w16 t)) → k ≡ false → bounds.Within (toZ w16 (ofZ w16 t)) ≡ boundsOf f
-  heat-within b d k t fits e q g r w m h u = bounds-within b d k (toZ w16 (ofZ w16 t)) e q g r w (toZ-ofZ fits ∙ m) h u
+      pub bounds-heat : k ≡ true → bounds.Refused refusal.Temperature ≡ boundsOf x f
+      bounds-heat u = ap (λ c. behind false c (isOutOfRange x) t) (sym u) ∙ behind-wall
 
+      behind-heat : k ≡ false → (o v : Bool) → o ≡ isOutOfRange x → o ≡ v → behind false false v t ≡ boundsOf x f
+      behind-heat u o v n z = ap₂ (λ c y. behind false c y t) (sym u) (sym z ∙ n) ∙ behind-wall
+
+      pub bounds-concentration : k ≡ false → (o : Bool) → o ≡ isOutOfRange x → o ≡ true → bounds.Refused refusal.Concentration ≡ boundsOf x f
+      bounds-concentration u o n z = behind-heat u o true n z
+
+      pub bounds-within : k ≡ false → (o : Bool) → o ≡ isOutOfRange x → o ≡ false → bounds.Within t ≡ boundsOf x f
+      bounds-within u o n z = behind-heat u o false n z
+
+module _ (f : Fields) where
   -- a flammable card
   pub flammable-not : (b : Bool) → b ≡ isFlammable (f .cas) → not b ≡ true → meaning.Refused refusal.Unlisted ≡ flammableOf f
   unfolding flammableOf
@@ -167,40 +207,31 @@ module _ (f : Fields) where
       simp (p, s) (λ i. meaning.Flammable (record { cas = f .cas; quantity = record { 0 = m i } }))
 
   -- a toxic card's meaning
-  pub toxic-not : (x : Toxic) (standing : Standing) (b : Bool) → x ≡ toxicOf (f .cas) → b ≡ isListed x → not b ≡ true → meaning.Refused refusal.Unlisted ≡ toxicMeaning (toxicOf (f .cas)) f standing
+  pub toxic-not : (x : Toxic) (standing : Standing) (b : Bool) → x ≡ substanceOf f → b ≡ isListed x → not b ≡ true → meaning.Refused refusal.Unlisted ≡ toxicMeaning (substanceOf f) f standing
   unfolding toxicMeaning
   toxic-not x standing b e g q =
-      let p : not (isListed (toxicOf (f .cas))) ≡ true = ap not (ap isListed (sym e) ∙ sym g) ∙ q in
+      let p : not (isListed (substanceOf f)) ≡ true = ap not (ap isListed (sym e) ∙ sym g) ∙ q in
       simp (p)
 
-  listed-meaning : (x : Toxic) (standing : Standing) (b : Bool) (d : Bounds) → x ≡ toxicOf (f .cas) → b ≡ isListed x → not b ≡ false → d ≡ boundsOf f → toxicBounded d f x standing ≡ toxicMeaning (toxicOf (f .cas)) f standing
+  listed-meaning : (x : Toxic) (standing : Standing) (b : Bool) (d : Bounds) → x ≡ substanceOf f → b ≡ isListed x → not b ≡ false → d ≡ boundsOf x f → toxicBounded d f x standing ≡ toxicMeaning (substanceOf f) f standing
   unfolding toxicMeaning
   listed-meaning x standing b d e g q h =
-      let p : not (isListed (toxicOf (f .cas))) ≡ false = ap not (ap isListed (sym e) ∙ sym g) ∙ q in
-      simp (p) (ap (λ y. toxicBounded y f x standing) h ∙ ap (λ y. toxicBounded (boundsOf f) f y standing) e)
+      let p : not (isListed (substanceOf f)) ≡ false = ap not (ap isListed (sym e) ∙ sym g) ∙ q in
+      simp (p) (ap (λ y. toxicBounded y f x standing) h ∙ ap (λ y. toxicBounded (boundsOf y f) f y standing) e)
 
-  pub toxic-refused : (x : Toxic) (standing : Standing) (b : Bool) (d : Bounds) (r : Refusal) → x ≡ toxicOf (f .cas) → b ≡ isListed x → not b ≡ false → d ≡ boundsOf f → (k : Refusal) → d ≡ bounds.Refused k → r ≡ boundsRefusal d → meaning.Refused r ≡ toxicMeaning (toxicOf (f .cas)) f standing
+  pub toxic-refused : (x : Toxic) (standing : Standing) (b : Bool) (d : Bounds) (r : Refusal) → x ≡ substanceOf f → b ≡ isListed x → not b ≡ false → d ≡ boundsOf x f → (k : Refusal) → d ≡ bounds.Refused k → r ≡ boundsRefusal d → meaning.Refused r ≡ toxicMeaning (substanceOf f) f standing
   toxic-refused x standing b d r e g q h k m n =
       ap meaning.Refused (n ∙ ap boundsRefusal m) ∙ (ap (λ y. toxicBounded y f x standing) (sym m) ∙ listed-meaning x standing b d e g q h)
 
-  toxic-is : (x : Toxic) (standing : Standing) (b : Bool) (d : Bounds) (t : ℤ) (n : Pounds) → x ≡ toxicOf (f .cas) → b ≡ isListed x → not b ≡ false → d ≡ boundsOf f → d ≡ bounds.Within t → n .0 ≡ f .pounds → meaning.Toxic (record { cas = f .cas; entry = x; state = standing .state; ground = standing .ground; quantity = n; temperature = t; containment = standing .containment }) ≡ toxicMeaning (toxicOf (f .cas)) f standing
-  toxic-is x standing b d t n e g q h m k =
-      (λ i. meaning.Toxic (record { cas = f .cas; entry = x; state = standing .state; ground = standing .ground; quantity = record { 0 = k i }; temperature = t; containment = standing .containment }))
+  pub toxic-read : (x : Toxic) (standing : Standing) (b : Bool) (d : Bounds) (t : Tenths) (n : Pounds) → x ≡ substanceOf f → b ≡ isListed x → not b ≡ false → d ≡ boundsOf x f → d ≡ bounds.Within t → n .0 ≡ f .pounds → meaning.Toxic (record { cas = f .cas; entry = x; state = standing .state; ground = standing .ground; quantity = n; tenths = t; containment = standing .containment }) ≡ toxicMeaning (substanceOf f) f standing
+  toxic-read x standing b d t n e g q h m k =
+      (λ i. meaning.Toxic (record { cas = f .cas; entry = x; state = standing .state; ground = standing .ground; quantity = record { 0 = k i }; tenths = t; containment = standing .containment }))
       ∙ (ap (λ y. toxicBounded y f x standing) (sym m) ∙ listed-meaning x standing b d e g q h)
 
-  toxic-limits : (x : Toxic) (d : Bounds) (t : ℤ) (n : Pounds) → x ≡ toxicOf (f .cas) → BoundsLimits f d → d ≡ bounds.Within t → n .0 ≡ f .pounds → (n .0 ≤ 10_000_000) × Within x
-  toxic-limits x d t n e l m k =
+  pub toxic-limited : (x : Toxic) (standing : Standing) (d : Bounds) (t : Tenths) (n : Pounds) → x ≡ substanceOf f → BoundsLimits f d → d ≡ bounds.Within t → n .0 ≡ f .pounds → Limits (record { cas = f .cas; entry = x; state = standing .state; ground = standing .ground; quantity = n; tenths = t; containment = standing .containment })
+  toxic-limited x standing d t n e l m k =
       let p : f .pounds ≤ 10_000_000 = subst (BoundsLimits f) m l in
-      (rw k p, subst Within (sym e) (within (f .cas)))
-
-  -- the same where the temperature was handed on by its bits
-  pub toxic-read : (x : Toxic) (standing : Standing) (b : Bool) (d : Bounds) (t : ℤ) (n : Pounds) → SFits w16 t → x ≡ toxicOf (f .cas) → b ≡ isListed x → not b ≡ false → d ≡ boundsOf f → d ≡ bounds.Within t → n .0 ≡ f .pounds → meaning.Toxic (record { cas = f .cas; entry = x; state = standing .state; ground = standing .ground; quantity = n; temperature = toZ w16 (ofZ w16 t); containment = standing .containment }) ≡ toxicMeaning (toxicOf (f .cas)) f standing
-  toxic-read x standing b d t n fits e g q h m k =
-      toxic-is x standing b d (toZ w16 (ofZ w16 t)) n e g q h (m ∙ ap bounds.Within (sym (toZ-ofZ fits))) k
-
-  pub toxic-limited : (x : Toxic) (standing : Standing) (d : Bounds) (t v : ℤ) (n : Pounds) → x ≡ toxicOf (f .cas) → BoundsLimits f d → d ≡ bounds.Within t → n .0 ≡ f .pounds → Limits (record { cas = f .cas; entry = x; state = standing .state; ground = standing .ground; quantity = n; temperature = v; containment = standing .containment })
-  toxic-limited x standing d t v n e l m k =
-      let fits = toxic-limits x d t n e l m k in record { quantity = fits .0; entry = fits .1 }
+      record { quantity = rw k p; entry = subst Within (sym e) (entry-within f) }
 
   -- the whole meaning
   pub meaning-number : (last : ℕ) (b : Bool) → b ≡ badNumber (f .number) last → b ≡ true → meaning.Refused refusal.Number ≡ meaningOf f last

@@ -3,10 +3,13 @@
 use Prim.Native.Nat.{ℕ}
 use mathlib.Core.Path.{_≡_, _∙_, refl, sym, ap}
 use mathlib.Core.Bool.{Bool, true, false, not}
-use lib.IntN.{ℤ}
+use lib.Dec.{eqb}
 use Rattle.search.specs.Laws.{clash}
 use Rattle.exhibits.specs.declared.Toxic.{Toxic}
 use Rattle.exhibits.specs.Exhibits.{toxicOf}
+use Rattle.exhibits.specs.Solutions.{solutionOf}
+use Rattle.scenario.specs.declared.Tenths.{Tenths}
+use Rattle.scenario.specs.declared.Tenths.the-variants.{Temperature, Concentration}
 use Rattle.scenario.specs.declared.ToxicCard.{ToxicCard}
 use Rattle.blast.specs.Blast.{isFlammable}
 use Rattle.fields.specs.declared.Fields.{Fields}
@@ -25,18 +28,18 @@ use Rattle.meaning.specs.declared.Bounds.the-variants as bounds
 use Rattle.meaning.specs.declared.FlammableCard.{FlammableCard}
 use Rattle.meaning.specs.declared.Meaning.{Meaning}
 use Rattle.meaning.specs.declared.Meaning.the-variants as meaning
-use Rattle.meaning.specs.Reading.{badNumber, badPounds, badArea, badWall, badHeat, signed, boundsIf, boundsOf, toxicBounded, isListed, meaningIf, toxicMeaning, flammableOf, shaped, meaningOf}
+use Rattle.meaning.specs.Reading.{badNumber, badPounds, badArea, badWall, signed, tenthsOf, badTenths, substanceOf, isOutOfRange, boundsIf, boundsOf, toxicBounded, isListed, meaningIf, toxicMeaning, flammableOf, shaped, meaningOf}
 
 -- what a toxic card tells of its fields
 pub record ToxicFrom (f : Fields) (card : ToxicCard) : Type 0 where
   pub kind : f .kind ≡ 1
   pub cas : f .cas ≡ card .cas
-  pub entry : toxicOf (f .cas) ≡ card .entry
+  pub entry : substanceOf f ≡ card .entry
   pub state : stateOf (f .state) ≡ stateByte.Is (card .state)
   pub ground : groundOf (f .ground) ≡ groundByte.Is (card .ground)
   pub held : heldOf (f .containment) (f .area) (f .wall) ≡ held.Is (card .containment)
   pub quantity : f .pounds ≡ card .quantity .0
-  pub temperature : signed (f .heat) ≡ card .temperature
+  pub tenths : tenthsOf f ≡ card .tenths
 
 -- what a flammable card tells of its fields
 pub record FlammableFrom (f : Fields) (card : FlammableCard) : Type 0 where
@@ -57,21 +60,22 @@ not-refused-flammable e = let z : _≡_ {A = ℕ} 0 1 = cc in clash z
 not-flammable-toxic : {a : FlammableCard} {b : ToxicCard} → meaning.Flammable a ≡ meaning.Toxic b → ⊥
 not-flammable-toxic e = let z : _≡_ {A = ℕ} 0 1 = cc in clash z
 
--- the temperature of numbers in range
-bounds-passed : (b : Bool) (r : Refusal) (m : Bounds) {t : ℤ} → boundsIf b r m ≡ bounds.Within t → m ≡ bounds.Within t
+-- the temperature, or the concentration, of numbers in range
+bounds-passed : (b : Bool) (r : Refusal) (m : Bounds) {t : Tenths} → boundsIf b r m ≡ bounds.Within t → m ≡ bounds.Within t
 bounds-passed true r m {t} e = let z : _≡_ {A = ℕ} 0 1 = cc in clash z
 bounds-passed false r m e = e
 
-within-is : {a b : ℤ} → bounds.Within a ≡ bounds.Within b → a ≡ b
+within-is : {a b : Tenths} → bounds.Within a ≡ bounds.Within b → a ≡ b
 within-is e = cc
 
-bounds-heat : (f : Fields) {t : ℤ} → boundsOf f ≡ bounds.Within t → signed (f .heat) ≡ t
+bounds-tenths : (entry : Toxic) (f : Fields) {t : Tenths} → boundsOf entry f ≡ bounds.Within t → tenthsOf f ≡ t
 unfolding boundsOf
-bounds-heat f e =
+bounds-tenths entry f e =
     let quantity = bounds-passed (badPounds (f .pounds)) _ _ e in
     let area = bounds-passed (badArea (f .containment) (f .area)) _ _ quantity in
     let wall = bounds-passed (badWall (f .wall)) _ _ area in
-    within-is (bounds-passed (badHeat (signed (f .heat))) _ _ wall)
+    let heat = bounds-passed (badTenths (tenthsOf f)) _ _ wall in
+    within-is (bounds-passed (isOutOfRange entry) _ _ heat)
 
 toxic-is : {a b : ToxicCard} → meaning.Toxic a ≡ meaning.Toxic b → a ≡ b
 toxic-is e = cc
@@ -84,11 +88,11 @@ record Told (f : Fields) (x : Toxic) (standing : Standing) (card : ToxicCard) : 
   ground : standing .ground ≡ card .ground
   containment : standing .containment ≡ card .containment
   quantity : f .pounds ≡ card .quantity .0
-  temperature : signed (f .heat) ≡ card .temperature
+  tenths : tenthsOf f ≡ card .tenths
 
-told : (b : Bounds) (f : Fields) (entry : Toxic) (standing : Standing) {card : ToxicCard} → boundsOf f ≡ b → toxicBounded b f entry standing ≡ meaning.Toxic card → Told f entry standing card
+told : (b : Bounds) (f : Fields) (entry : Toxic) (standing : Standing) {card : ToxicCard} → boundsOf entry f ≡ b → toxicBounded b f entry standing ≡ meaning.Toxic card → Told f entry standing card
 told (bounds.Within t) f entry standing {card} h e =
-    let made : ToxicCard = record { cas = f .cas; entry = entry; state = standing .state; ground = standing .ground; quantity = record { 0 = f .pounds }; temperature = t; containment = standing .containment } in
+    let made : ToxicCard = record { cas = f .cas; entry = entry; state = standing .state; ground = standing .ground; quantity = record { 0 = f .pounds }; tenths = t; containment = standing .containment } in
     let same : made ≡ card = toxic-is e in
     record {
       cas = ap (λ (c : ToxicCard). c .cas) same;
@@ -97,7 +101,7 @@ told (bounds.Within t) f entry standing {card} h e =
       ground = ap (λ (c : ToxicCard). c .ground) same;
       containment = ap (λ (c : ToxicCard). c .containment) same;
       quantity = ap (λ (c : ToxicCard). c .quantity .0) same;
-      temperature = bounds-heat f h ∙ ap (λ (c : ToxicCard). c .temperature) same;
+      tenths = bounds-tenths entry f h ∙ ap (λ (c : ToxicCard). c .tenths) same;
     }
 told (bounds.Refused r) f entry standing h e = absurd (not-refused-toxic (sym e))
 
@@ -110,17 +114,17 @@ flammable-passed f {w} e m n =
     (passed (not (isFlammable (f .cas))) refusal.Unlisted (meaningIf (badPounds (f .pounds)) refusal.Quantity last) e m)
     n
 
-toxic-passed : (f : Fields) (x : Toxic) (standing : Standing) {w : Meaning} → toxicMeaning x f standing ≡ w → (w ≡ meaning.Refused refusal.Unlisted → ⊥) → toxicBounded (boundsOf f) f x standing ≡ w
+toxic-passed : (f : Fields) (x : Toxic) (standing : Standing) {w : Meaning} → toxicMeaning x f standing ≡ w → (w ≡ meaning.Refused refusal.Unlisted → ⊥) → toxicBounded (boundsOf x f) f x standing ≡ w
 unfolding toxicMeaning
 toxic-passed f x standing e n =
-    passed (not (isListed x)) refusal.Unlisted (toxicBounded (boundsOf f) f x standing) e n
+    passed (not (isListed x)) refusal.Unlisted (toxicBounded (boundsOf x f) f x standing) e n
 
 flammable-not-toxic : (f : Fields) {card : ToxicCard} → flammableOf f ≡ meaning.Toxic card → ⊥
 flammable-not-toxic f {card} e = not-flammable-toxic (flammable-passed f e not-refused-toxic not-refused-toxic)
 
 toxic-shaped : (f : Fields) (s : Shape) {card : ToxicCard} → shapeOf f ≡ s → shaped s f ≡ meaning.Toxic card → ToxicFrom f card
 toxic-shaped f (shape.Toxic standing) p e =
-    let t = told (boundsOf f) f (toxicOf (f .cas)) standing refl (toxic-passed f (toxicOf (f .cas)) standing e not-refused-toxic) in
+    let t = told (boundsOf (substanceOf f) f) f (substanceOf f) standing refl (toxic-passed f (substanceOf f) standing e not-refused-toxic) in
     let g = toxic-shape f p in
     record {
       kind = g .kind;
@@ -130,7 +134,7 @@ toxic-shaped f (shape.Toxic standing) p e =
       ground = g .ground ∙ ap groundByte.Is (t .ground);
       held = g .held ∙ ap held.Is (t .containment);
       quantity = t .quantity;
-      temperature = t .temperature;
+      tenths = t .tenths;
     }
 toxic-shaped f shape.Flammable p e = absurd (flammable-not-toxic f e)
 toxic-shaped f (shape.Refused r) p e = absurd (not-refused-toxic (sym e))
@@ -151,7 +155,7 @@ toxic-not-flammable (bounds.Refused r) f entry standing e = not-refused-flammabl
 
 flammable-shaped : (f : Fields) (s : Shape) {card : FlammableCard} → shapeOf f ≡ s → shaped s f ≡ meaning.Flammable card → FlammableFrom f card
 flammable-shaped f (shape.Toxic standing) p e =
-    absurd (toxic-not-flammable (boundsOf f) f (toxicOf (f .cas)) standing (toxic-passed f (toxicOf (f .cas)) standing e not-refused-flammable))
+    absurd (toxic-not-flammable (boundsOf (substanceOf f) f) f (substanceOf f) standing (toxic-passed f (substanceOf f) standing e not-refused-flammable))
 flammable-shaped f shape.Flammable p e =
     let same = flammable-is (flammable-passed f e not-refused-flammable not-refused-flammable) in
     record {
@@ -166,3 +170,16 @@ unfolding meaningOf
 flammable-from f last e =
     flammable-shaped f (shapeOf f) refl
     (passed (badNumber (f .number) last) refusal.Number (shaped (shapeOf f) f) e not-refused-flammable)
+
+-- ---- cards with one CAS number, one state and the same bytes 18 and 19
+
+module _ (f g : Fields) (cas : f .cas ≡ g .cas) (state : f .state ≡ g .state) (heat : f .heat ≡ g .heat) where
+  pub same-entry : substanceOf f ≡ substanceOf g
+  unfolding substanceOf
+  same-entry = λ i.
+      elim (eqb (state i) 5) as (λ _. Toxic) [ true ↦ solutionOf (cas i) (heat i) | false ↦ toxicOf (cas i) ]
+
+  pub same-tenths : tenthsOf f ≡ tenthsOf g
+  unfolding tenthsOf
+  same-tenths = λ i.
+      elim (eqb (state i) 5) as (λ _. Tenths) [ true ↦ Concentration (heat i) | false ↦ Temperature (signed (heat i)) ]

@@ -7,7 +7,7 @@ use mathlib.Core.Bool.{Bool, true, false, not}
 use mathlib.Core.Logic.{_⊎_, inl, inr}
 use lib.Dec.{ltb, eqb}
 use lib.IntN.{ℤ, pos, negsuc}
-use borrow.Author.Tests.{ltb-false, not-false}
+use borrow.Author.Tests.{ltb-false, eqb-false, not-false}
 use Rattle.search.specs.Laws.{clash}
 use Rattle.search.specs.Places.{either}
 use Rattle.search.specs.PlaceLaws.{neither}
@@ -15,6 +15,8 @@ use Rattle.exhibits.specs.declared.Toxic.{Toxic}
 use Rattle.exhibits.specs.declared.Toxic.the-variants.{NotListed}
 use Rattle.exhibits.specs.Exhibits.{toxicOf}
 use Rattle.exhibits.specs.Laws as exhibits
+use Rattle.exhibits.specs.Solutions.{solutionOf}
+use Rattle.exhibits.specs.SolutionLaws.{solution-below, solution-percent}
 use Rattle.dispersion.specs.declared.Ground.{Ground}
 use Rattle.dispersion.specs.declared.Ground.the-variants.{Rural, Urban}
 use Rattle.blast.specs.Blast.{isFlammable}
@@ -22,7 +24,9 @@ use Rattle.blast.specs.Laws as blast
 use Rattle.release.specs.declared.Containment.{Containment}
 use Rattle.release.specs.declared.Containment.the-variants.{Open, Dike, Building}
 use Rattle.scenario.specs.declared.State.{State}
-use Rattle.scenario.specs.declared.State.the-variants.{Gas, Pressurized, Refrigerated, Liquid}
+use Rattle.scenario.specs.declared.State.the-variants.{Gas, Pressurized, Refrigerated, Liquid, Solution}
+use Rattle.scenario.specs.declared.Tenths.{Tenths}
+use Rattle.scenario.specs.declared.Tenths.the-variants.{Temperature, Concentration}
 use Rattle.fields.specs.declared.Fields.{Fields}
 use Rattle.refusals.specs.declared.Refusal.{Refusal}
 use Rattle.form.specs.declared.StateByte.the-variants as stateByte
@@ -37,21 +41,21 @@ use Rattle.form.specs.Same.{stateIn, state-byte, groundIn, ground-byte, held-by
 use Rattle.meaning.specs.declared.Bounds.{Bounds}
 use Rattle.meaning.specs.declared.Meaning.{Meaning}
 use Rattle.meaning.specs.declared.Meaning.the-variants as meaning
-use Rattle.meaning.specs.Reading.{badNumber, badPounds, badArea, badWall, badHeat, signed, boundsIf, boundsOf, toxicBounded, isListed, meaningIf, toxicMeaning, flammableOf, shaped, meaningOf}
+use Rattle.meaning.specs.Reading.{badNumber, badPounds, badArea, badWall, badHeat, signed, tenthsOf, badTenths, substanceOf, isOutOfRange, boundsIf, boundsOf, toxicBounded, isListed, meaningIf, toxicMeaning, flammableOf, shaped, meaningOf}
 
 pub record Ranged (f : Fields) : Type 0 where
   pub kind : f .kind ≤ 2
-  pub state : f .state ≤ 4
+  pub state : f .state ≤ 5
   pub ground : f .ground ≤ 2
   pub containment : f .containment ≤ 2
   pub cas : f .cas < 100_000_000
   pub pounds : f .pounds ≤ 10_000_000
   pub area : f .area ≤ 1_000_000
   pub wall : f .wall ≤ 10_000
-  -- as the two bytes hold it: from 0 up, or below 0
-  pub heat : (f .heat ≤ 3_000) ⊎ (65_036 ≤ f .heat)
+  -- as the two bytes hold it: from 0 up, or a temperature below 0
+  pub heat : (f .heat ≤ 3_000) ⊎ ((65_036 ≤ f .heat) × (f .state ≡ 5 → ⊥))
 
--- ---- what the tests of 8, 9, 14 and 15 say of a number that they let pass
+-- ---- what the tests of 8, 9, 14, 15 and 16 say of a number that they let pass
 
 pub pounds-within : (n : ℕ) → badPounds n ≡ false → n ≤ 10_000_000
 unfolding badPounds
@@ -70,6 +74,27 @@ heat-within n e = go (ltb n 32_768) e
     go true q = inl (ltb-false 3_000 n q)
     go false q = inr (omega (arith, ltb-false 499 (65_535 - n) (neither (ltb 499 (65_535 - n)) false q .0)))
 
+-- what is listed is not missing
+listed : (t : Toxic) → isListed t ≡ true → t ≡ NotListed → ⊥
+listed t e n = let z : _≡_ {A = ℕ} 0 1 = cc in clash z
+
+-- a concentration in range is at most 100 percent
+tenths-within : (f : Fields) → isListed (substanceOf f) ≡ true → badTenths (tenthsOf f) ≡ false → isOutOfRange (substanceOf f) ≡ false → (f .heat ≤ 3_000) ⊎ ((65_036 ≤ f .heat) × (f .state ≡ 5 → ⊥))
+unfolding substanceOf tenthsOf
+tenths-within f l t r = go (eqb (f .state) 5) refl l t r
+  where
+    either-end : (f .state ≡ 5 → ⊥) → (f .heat ≤ 3_000) ⊎ (65_036 ≤ f .heat) → (f .heat ≤ 3_000) ⊎ ((65_036 ≤ f .heat) × (f .state ≡ 5 → ⊥))
+    either-end n (inl h) = inl h
+    either-end n (inr h) = inr (h, n)
+
+    go : (b : Bool) → eqb (f .state) 5 ≡ b → isListed (elim b as (λ _. Toxic) [ true ↦ solutionOf (f .cas) (f .heat) | false ↦ toxicOf (f .cas) ]) ≡ true
+        → badTenths (elim b as (λ _. Tenths) [ true ↦ Concentration (f .heat) | false ↦ Temperature (signed (f .heat)) ]) ≡ false
+        → isOutOfRange (elim b as (λ _. Toxic) [ true ↦ solutionOf (f .cas) (f .heat) | false ↦ toxicOf (f .cas) ]) ≡ false
+        → (f .heat ≤ 3_000) ⊎ ((65_036 ≤ f .heat) × (f .state ≡ 5 → ⊥))
+    go true p l t r =
+        inl (omega (arith, solution-percent (f .cas) (f .heat) (listed (solutionOf (f .cas) (f .heat)) l) (λ e. clash (cc))))
+    go false p l t r = either-end (eqb-false (f .state) 5 p) (heat-within (f .heat) t)
+
 area-within : (n : ℕ) → either (eqb n 0) (ltb 1_000_000 n) ≡ false → n ≤ 1_000_000
 area-within n e = ltb-false 1_000_000 n (neither (eqb n 0) (ltb 1_000_000 n) e .1)
 
@@ -82,11 +107,12 @@ held-within (Building x) b area wall h e = let k = held-bytes b area wall h .0 i
 
 -- ---- the codes
 
-state-within : (s : State) → stateIn (stateByte.Is s) ≤ 4
+state-within : (s : State) → stateIn (stateByte.Is s) ≤ 5
 state-within Gas = omega arith
 state-within Pressurized = omega arith
 state-within Refrigerated = omega arith
 state-within Liquid = omega arith
+state-within Solution = omega arith
 
 ground-within : (g : Ground) → groundIn (groundByte.Is g) ≤ 2
 ground-within Rural = omega arith
@@ -109,42 +135,49 @@ module _ (f : Fields) (entry : Toxic) (standing : Standing) where
   within true r further n = absurd (n r refl)
   within false r further n = (refl, n)
 
-  -- all four of them
-  bounded : Sound (toxicBounded (boundsOf f) f entry standing)
-      → (badPounds (f .pounds) ≡ false) × (badArea (f .containment) (f .area) ≡ false) × (badWall (f .wall) ≡ false) × (badHeat (signed (f .heat)) ≡ false)
+  -- all five of them
+  bounded : Sound (toxicBounded (boundsOf entry f) f entry standing)
+      → (badPounds (f .pounds) ≡ false) × (badArea (f .containment) (f .area) ≡ false) × (badWall (f .wall) ≡ false) × (badTenths (tenthsOf f) ≡ false)
+      × (isOutOfRange entry ≡ false)
   unfolding boundsOf
   bounded n =
       let p = within (badPounds (f .pounds)) _ _ n in
       let a = within (badArea (f .containment) (f .area)) _ _ (p .1) in
       let w = within (badWall (f .wall)) _ _ (a .1) in
-      let h = within (badHeat (signed (f .heat))) _ _ (w .1) in
-      (p .0, a .0, w .0, h .0)
+      let h = within (badTenths (tenthsOf f)) _ _ (w .1) in
+      let c = within (isOutOfRange entry) _ _ (h .1) in
+      (p .0, a .0, w .0, h .0, c .0)
 
 -- ---- the ranges
 
--- what is listed is not missing
-listed : (t : Toxic) → isListed t ≡ true → t ≡ NotListed → ⊥
-listed t e n = let z : _≡_ {A = ℕ} 0 1 = cc in clash z
+-- a substance that is listed has a CAS number of at most eight digits
+cas-within : (f : Fields) → isListed (substanceOf f) ≡ true → f .cas < 100_000_000
+unfolding substanceOf
+cas-within f l = go (eqb (f .state) 5) l
+  where
+    go : (b : Bool) → isListed (elim b as (λ _. Toxic) [ true ↦ solutionOf (f .cas) (f .heat) | false ↦ toxicOf (f .cas) ]) ≡ true → f .cas < 100_000_000
+    go true l = solution-below (f .cas) (f .heat) (listed (solutionOf (f .cas) (f .heat)) l)
+    go false l = exhibits.listed-below (f .cas) (listed (toxicOf (f .cas)) l)
 
 -- by what the bytes 0 to 3 make
 shaped-ranged : (f : Fields) (s : Shape) → shapeOf f ≡ s → Sound (shaped s f) → Ranged f
 unfolding toxicMeaning flammableOf
 shaped-ranged f (shape.Toxic standing) p n =
     let bytes = toxic-shape f p in
-    let entry = toxicOf (f .cas) in
-    let known = passed (not (isListed entry)) _ _ n in
-    let numbers = bounded f entry standing (known .1) in
+    let known = passed (not (isListed (substanceOf f))) _ _ n in
+    let in-list = not-false (isListed (substanceOf f)) (known .0) in
+    let numbers = bounded f (substanceOf f) standing (known .1) in
     let place = held-within (standing .containment) (f .containment) (f .area) (f .wall) (bytes .held) (numbers .1) in
     record {
       kind = omega (arith, bytes .kind);
       state = omega (arith, state-byte (f .state) (bytes .state), state-within (standing .state));
       ground = omega (arith, ground-byte (f .ground) (bytes .ground), ground-within (standing .ground));
       containment = place .0;
-      cas = exhibits.listed-below (f .cas) (listed entry (not-false (isListed entry) (known .0)));
+      cas = cas-within f in-list;
       pounds = pounds-within (f .pounds) (numbers .0);
       area = place .1;
       wall = wall-within (f .wall) (numbers .2);
-      heat = heat-within (f .heat) (numbers .3);
+      heat = tenths-within f in-list (numbers .3) (numbers .4);
     }
 shaped-ranged f shape.Flammable p n =
     let zeros = flammable-blank f p in

@@ -1,4 +1,4 @@
--- From the fields of a card to its meaning or a refusal, in the order of the checks: 5, 6, 7, 8, 9, 14, 15.
+-- From the fields of a card to its meaning or a refusal, in the order of the checks: 5, 6, 7, 8, 9, 14, 15 or 16.
 -- Assumes nothing.
 use Prim.Native.Nat.{ℕ, _-_, _≤_}
 use mathlib.Core.Bool.{Bool, true, false, not}
@@ -7,9 +7,12 @@ use lib.IntN.{ℤ, pos, negsuc}
 use lib.Signed.{ltZ}
 use Rattle.search.specs.Places.{either}
 use Rattle.exhibits.specs.declared.Toxic.{Toxic}
-use Rattle.exhibits.specs.declared.Toxic.the-variants.{OfGas, OfLiquid, NotListed}
+use Rattle.exhibits.specs.declared.Toxic.the-variants.{OfGas, OfLiquid, OfSolution, OutOfRange, NotListed}
 use Rattle.exhibits.specs.Exhibits.{toxicOf}
+use Rattle.exhibits.specs.Solutions.{solutionOf}
 use Rattle.blast.specs.Blast.{isFlammable}
+use Rattle.scenario.specs.declared.Tenths.{Tenths}
+use Rattle.scenario.specs.declared.Tenths.the-variants.{Temperature, Concentration}
 use Rattle.scenario.specs.Plan.{Limits}
 use Rattle.fields.specs.declared.Fields.{Fields}
 use Rattle.refusals.specs.declared.Refusal.{Refusal}
@@ -47,18 +50,42 @@ signed heat = elim (ltb heat 32_768) [ true ↦ pos heat | false ↦ negsuc (65_
 unfoldable pub badHeat : ℤ → Bool
 badHeat t = either (ltZ t (negsuc 499)) (ltZ (pos 3_000) t)
 
+-- "State 5 is a solution of a B-3 substance. Its concentration, unsigned tenths of a percent by weight, takes the temperature's
+-- place": what bytes 18 and 19 are, and which of the two
+unfoldable pub tenthsOf : Fields → Tenths
+tenthsOf f = elim (eqb (f .state) 5) [ true ↦ Concentration (f .heat) | false ↦ Temperature (signed (f .heat)) ]
+
+-- no concentration is a temperature out of range
+abbrev pub badTenths : Tenths → Bool
+badTenths (Temperature t) = badHeat t
+badTenths (Concentration c) = false
+
+-- what the exhibits say of a toxic card: "in state 5 number 7 looks in B-3"
+unfoldable pub substanceOf : Fields → Toxic
+substanceOf f = elim (eqb (f .state) 5) [ true ↦ solutionOf (f .cas) (f .heat) | false ↦ toxicOf (f .cas) ]
+
+-- 16: "concentration zero or above the highest printed", as Exhibit B-3 says of it
+abbrev pub isOutOfRange : Toxic → Bool
+isOutOfRange (OfGas g) = false
+isOutOfRange (OfLiquid l) = false
+isOutOfRange (OfSolution s) = false
+isOutOfRange OutOfRange = true
+isOutOfRange NotListed = false
+
 -- a check that refuses where its condition holds
 abbrev pub boundsIf : Bool → Refusal → Bounds → Bounds
 boundsIf true r further = bounds.Refused r
 boundsIf false r further = further
 
--- 8, then "area, wall and temperature are checked in that order", and the temperature
-unfoldable pub boundsOf : Fields → Bounds
-boundsOf f =
+-- 8, then "area, wall and temperature are checked in that order", 16 "at temperature's place in the order", and what bytes 18 and
+-- 19 are
+unfoldable pub boundsOf : Toxic → Fields → Bounds
+boundsOf entry f =
     boundsIf (badPounds (f .pounds)) refusal.Quantity
     (boundsIf (badArea (f .containment) (f .area)) refusal.Area
     (boundsIf (badWall (f .wall)) refusal.Wall
-    (boundsIf (badHeat (signed (f .heat))) refusal.Temperature (bounds.Within (signed (f .heat))))))
+    (boundsIf (badTenths (tenthsOf f)) refusal.Temperature
+    (boundsIf (isOutOfRange entry) refusal.Concentration (bounds.Within (tenthsOf f))))))
 
 -- 7: "CAS number not listed for the kind", then the ranges
 abbrev pub toxicBounded : Bounds → Fields → Toxic → Standing → Meaning
@@ -70,7 +97,7 @@ toxicBounded (bounds.Within t) f entry standing =
       state = standing .state;
       ground = standing .ground;
       quantity = record { 0 = f .pounds };
-      temperature = t;
+      tenths = t;
       containment = standing .containment;
     })
 toxicBounded (bounds.Refused r) f entry standing = meaning.Refused r
@@ -78,6 +105,8 @@ toxicBounded (bounds.Refused r) f entry standing = meaning.Refused r
 abbrev pub isListed : Toxic → Bool
 isListed (OfGas g) = true
 isListed (OfLiquid l) = true
+isListed (OfSolution s) = true
+isListed OutOfRange = true
 isListed NotListed = false
 
 abbrev pub meaningIf : Bool → Refusal → Meaning → Meaning
@@ -86,7 +115,7 @@ meaningIf false r further = further
 
 unfoldable pub toxicMeaning : Toxic → Fields → Standing → Meaning
 toxicMeaning entry f standing =
-    meaningIf (not (isListed entry)) refusal.Unlisted (toxicBounded (boundsOf f) f entry standing)
+    meaningIf (not (isListed entry)) refusal.Unlisted (toxicBounded (boundsOf entry f) f entry standing)
 
 unfoldable pub flammableOf : Fields → Meaning
 flammableOf f =
@@ -95,7 +124,7 @@ flammableOf f =
     (meaning.Flammable (record { cas = f .cas; quantity = record { 0 = f .pounds } })))
 
 abbrev pub shaped : Shape → Fields → Meaning
-shaped (shape.Toxic standing) f = toxicMeaning (toxicOf (f .cas)) f standing
+shaped (shape.Toxic standing) f = toxicMeaning (substanceOf f) f standing
 shaped shape.Flammable f = flammableOf f
 shaped (shape.Refused r) f = meaning.Refused r
 
@@ -105,7 +134,7 @@ meaningOf f last = meaningIf (badNumber (f .number) last) refusal.Number (shaped
 
 -- the refusal that the ranges give; the last of them where they give none
 abbrev pub boundsRefusal : Bounds → Refusal
-boundsRefusal (bounds.Within t) = refusal.Temperature
+boundsRefusal (bounds.Within t) = refusal.Concentration
 boundsRefusal (bounds.Refused r) = r
 
 -- what numbers in range, and a meaning, keep of document 01's limits

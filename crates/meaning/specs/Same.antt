@@ -5,9 +5,11 @@ use Prim.Native.Nat.{ℕ, _-_, _^_, _<_}
 use native.Mathlib.Omega.{arith}
 use mathlib.Core.Path.{_≡_, refl}
 use mathlib.Core.Bool.{Bool, true, false}
-use lib.Dec.{ltb}
+use lib.Dec.{ltb, eqb}
 use lib.IntN.{ℤ, pos, negsuc}
 use Rattle.search.specs.Laws.{clash}
+use Rattle.scenario.specs.declared.Tenths.{Tenths}
+use Rattle.scenario.specs.declared.Tenths.the-variants.{Temperature, Concentration}
 use Rattle.scenario.specs.declared.ToxicCard.{ToxicCard}
 use Rattle.fields.specs.declared.Fields.{Fields}
 use Rattle.refusals.specs.declared.Refusal.{Refusal}
@@ -23,7 +25,7 @@ use Rattle.form.specs.Same.{stateIn, state-byte, groundIn, ground-byte, heldIn,
 use Rattle.meaning.specs.declared.FlammableCard.{FlammableCard}
 use Rattle.meaning.specs.declared.Meaning.{Meaning}
 use Rattle.meaning.specs.declared.Meaning.the-variants as meaning
-use Rattle.meaning.specs.Reading.{badNumber, signed, meaningIf, shaped, meaningOf}
+use Rattle.meaning.specs.Reading.{badNumber, signed, tenthsOf, meaningIf, shaped, meaningOf}
 use Rattle.meaning.specs.Inverse.{toxic-from, flammable-from}
 
 -- the two bytes that a temperature is read from
@@ -31,13 +33,26 @@ abbrev pub heatIn : ℤ → ℕ
 heatIn (pos n) = n
 heatIn (negsuc n) = 65_535 - n
 
-pub heat-bytes : (heat : ℕ) → heat < 2 ^ 16 → heat ≡ heatIn (signed heat)
+heat-bytes : (heat : ℕ) → heat < 2 ^ 16 → heat ≡ heatIn (signed heat)
 unfolding signed
 heat-bytes heat h = go (ltb heat 32_768)
   where
     go : (t : Bool) → heat ≡ heatIn (elim t as (λ _. ℤ) [ true ↦ pos heat | false ↦ negsuc (65_535 - heat) ])
     go true = refl
     go false = omega arith
+
+-- the two bytes that a temperature or a concentration is read from
+abbrev pub tenthsIn : Tenths → ℕ
+tenthsIn (Temperature t) = heatIn t
+tenthsIn (Concentration c) = c
+
+tenths-bytes : (f : Fields) → f .heat < 2 ^ 16 → f .heat ≡ tenthsIn (tenthsOf f)
+unfolding tenthsOf
+tenths-bytes f h = go (eqb (f .state) 5)
+  where
+    go : (t : Bool) → f .heat ≡ tenthsIn (elim t as (λ _. Tenths) [ true ↦ Concentration (f .heat) | false ↦ Temperature (signed (f .heat)) ])
+    go true = refl
+    go false = heat-bytes (f .heat) h
 
 -- the fields one by one in their order, and that a card is its fields: what `cc` below is told of records
 abbrev made : (kind state ground containment cas pounds area wall heat number : ℕ) → Fields
@@ -63,7 +78,7 @@ unfoldable pub toxicFields : ToxicCard → ℕ → Fields
 toxicFields card number =
     let h = heldIn (held.Is (card .containment)) in
     made 1 (stateIn (stateByte.Is (card .state))) (groundIn (groundByte.Is (card .ground))) (h .0)
-    (card .cas) (card .quantity .0) (h .1) (h .2) (heatIn (card .temperature)) number
+    (card .cas) (card .quantity .0) (h .1) (h .2) (tenthsIn (card .tenths)) number
 
 unfoldable pub flammableFields : FlammableCard → ℕ → Fields
 flammableFields card number = made 2 0 0 0 (card .cas) (card .quantity .0) 0 0 0 number
@@ -73,7 +88,7 @@ unfolding toxicFields
 toxic-fields f last h e =
     let t = toxic-from f last e in
     let c = held-bytes (f .containment) (f .area) (f .wall) (t .held) in
-    cc (made-of f, state-byte (f .state) (t .state), ground-byte (f .ground) (t .ground), heat-bytes (f .heat) h)
+    cc (made-of f, state-byte (f .state) (t .state), ground-byte (f .ground) (t .ground), tenths-bytes f h)
 
 -- a flammable meaning comes of a flammable shape
 flammable-shaped : (f : Fields) (last : ℕ) {card : FlammableCard} → meaningOf f last ≡ meaning.Flammable card → shapeOf f ≡ shape.Flammable

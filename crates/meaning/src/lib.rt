@@ -4,15 +4,15 @@ use fields::Fields;
 use form::Shape;
 use form::Standing;
 use refusals::Refusal;
+use scenario::Tenths;
 use scenario::ToxicCard;
 use units::Pounds;
 ghost use mathlib.Core.Path.{_≡_};
-ghost use Rattle.meaning.specs.Reading.{badNumber, badPounds, badArea, badHeat, signed, boundsOf, boundsRefusal, BoundsLimits, isListed, toxicMeaning, flammableOf, meaningOf, MeaningLimits};
-ghost use Rattle.exhibits.specs.Exhibits.{toxicOf};
+ghost use Rattle.meaning.specs.Reading.{badNumber, badPounds, badArea, badHeat, signed, tenthsOf, badTenths, substanceOf, isOutOfRange, boundsOf, boundsRefusal, BoundsLimits, isListed, toxicMeaning, flammableOf, meaningOf, MeaningLimits};
 
-// The temperature of a card whose numbers are all in range, in signed tenths.
+// The temperature or the concentration of a card whose numbers are all in range.
 pub enum Bounds {
-    Within(i16),
+    Within(Tenths),
     Refused(Refusal),
 }
 
@@ -75,9 +75,50 @@ fn to_signed(heat: u16) -> i16
     }
 }
 
-// The ranges of a toxic card's numbers, in turn, and its temperature.
-fn bounds_of(f: Fields) -> Bounds
-    ensures { λ r. ⌜ r ≡ boundsOf f ⌝ }
+// What bytes 18 and 19 are: in state 5 a concentration, else a temperature.
+fn tenths_of(f: Fields) -> Tenths
+    ensures { λ r. ⌜ r ≡ tenthsOf f ⌝ }
+{
+    if f.state == 5 {
+        return Tenths::Concentration(f.heat);
+    }
+    Tenths::Temperature(to_signed(f.heat))
+}
+
+fn bad_tenths(tenths: Tenths) -> bool
+    ensures { λ r. ⌜ r ≡ badTenths tenths ⌝ }
+{
+    match tenths {
+        Tenths::Temperature(degrees) => bad_heat(degrees),
+        Tenths::Concentration(_) => false,
+    }
+}
+
+// What the exhibits say of a toxic card: B-3 of a solution at its concentration, else B-1 or B-2.
+fn substance_of(f: Fields) -> Toxic
+    ensures { λ r. ⌜ r ≡ substanceOf f ⌝ }
+{
+    if f.state == 5 {
+        return exhibits::solution_of(f.cas, f.heat);
+    }
+    exhibits::toxic_of(f.cas)
+}
+
+fn is_out_of_range(entry: Toxic) -> bool
+    ensures { λ r. ⌜ r ≡ isOutOfRange entry ⌝ }
+{
+    match entry {
+        Toxic::OfGas(_) => false,
+        Toxic::OfLiquid(_) => false,
+        Toxic::OfSolution(_) => false,
+        Toxic::OutOfRange => true,
+        Toxic::NotListed => false,
+    }
+}
+
+// The ranges of a toxic card's numbers, in turn, and its temperature or concentration.
+fn bounds_of(f: Fields, entry: Toxic) -> Bounds
+    ensures { λ r. ⌜ r ≡ boundsOf entry f ⌝ }
     ensures { λ r. ⌜ BoundsLimits f r ⌝ }
 {
     if bad_pounds(f.pounds) {
@@ -89,9 +130,12 @@ fn bounds_of(f: Fields) -> Bounds
     if 10_000 < f.wall {
         return Bounds::Refused(Refusal::Wall);
     }
-    let tenths = to_signed(f.heat);
-    if bad_heat(tenths) {
+    let tenths = tenths_of(f);
+    if bad_tenths(tenths) {
         return Bounds::Refused(Refusal::Temperature);
+    }
+    if is_out_of_range(entry) {
+        return Bounds::Refused(Refusal::Concentration);
     }
     Bounds::Within(tenths)
 }
@@ -100,7 +144,7 @@ fn bounds_refusal(found: Bounds) -> Refusal
     ensures { λ r. ⌜ r ≡ boundsRefusal found ⌝ }
 {
     match found {
-        Bounds::Within(_) => Refusal::Temperature,
+        Bounds::Within(_) => Refusal::Concentration,
         Bounds::Refused(refusal) => refusal,
     }
 }
@@ -111,21 +155,23 @@ fn is_listed(entry: Toxic) -> bool
     match entry {
         Toxic::OfGas(_) => true,
         Toxic::OfLiquid(_) => true,
+        Toxic::OfSolution(_) => true,
+        Toxic::OutOfRange => true,
         Toxic::NotListed => false,
     }
 }
 
 // A toxic card's meaning: its substance is listed and its numbers are in range.
 fn toxic_meaning(f: Fields, standing: Standing) -> Meaning
-    ensures { λ r. ⌜ r ≡ toxicMeaning (toxicOf (f .cas)) f standing ⌝ }
+    ensures { λ r. ⌜ r ≡ toxicMeaning (substanceOf f) f standing ⌝ }
     ensures { λ r. ⌜ MeaningLimits r ⌝ }
 {
-    let entry = exhibits::toxic_of(f.cas);
+    let entry = substance_of(f);
     if !is_listed(entry) {
         return Meaning::Refused(Refusal::Unlisted);
     }
-    let found = bounds_of(f);
-    let Bounds::Within(temperature) = found else {
+    let found = bounds_of(f, entry);
+    let Bounds::Within(tenths) = found else {
         return Meaning::Refused(bounds_refusal(found));
     };
     let state = standing.state;
@@ -137,7 +183,7 @@ fn toxic_meaning(f: Fields, standing: Standing) -> Meaning
         state,
         ground,
         quantity: release::pounds(f.pounds),
-        temperature,
+        tenths,
         containment,
     })
 }

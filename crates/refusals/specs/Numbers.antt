@@ -22,3 +22,5 @@ numberOf refusal.Room = 13
 -- A2; 9 "becomes area only"
 numberOf refusal.Wall = 14
 numberOf refusal.Temperature = 15
+-- A3
+numberOf refusal.Concentration = 16

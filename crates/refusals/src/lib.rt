@@ -19,6 +19,7 @@ pub enum Refusal {
     Room,
     Wall,
     Temperature,
+    Concentration,
 }
 
 // The number of a refusal.
@@ -41,5 +42,6 @@ pub fn number(refusal: Refusal) -> u8
         Refusal::Room => 13,
         Refusal::Wall => 14,
         Refusal::Temperature => 15,
+        Refusal::Concentration => 16,
     }
 }

@@ -15,15 +15,15 @@ use Rattle.release.specs.declared.Containment.the-variants.{Open, Dike, Buildin
 use Rattle.release.specs.Pool.{poolArea, poolRate, gasRate, beyondDike, isBuilding}
 use Rattle.release.specs.Laws.{Looser, open-open, dike-dike, building-building, area-mono, gas-mono, pool-mono}
 use Rattle.scenario.specs.declared.State.{State}
-use Rattle.scenario.specs.declared.State.the-variants.{Gas, Pressurized, Refrigerated, Liquid}
+use Rattle.scenario.specs.declared.State.the-variants.{Gas, Pressurized, Refrigerated, Liquid, Solution}
 use Rattle.scenario.specs.declared.ToxicCard.{ToxicCard}
 use Rattle.scenario.specs.declared.Scenario.{Scenario}
 use Rattle.factors.specs.declared.Factors.{Factors}
 use Rattle.factors.specs.declared.Factors.the-variants.{Read, Missing}
-use Rattle.factors.specs.Factors.{columnOf, factorsOf}
+use Rattle.factors.specs.Factors.{factorsOf}
 use Rattle.scenario.specs.declared.Planned.{Planned}
 use Rattle.scenario.specs.declared.Planned.the-variants as planned
-use Rattle.scenario.specs.Plan.{vaporOf, poolOf, undiked, pooled, gasPlan, factored, liquidPlan, planFor, planOf}
+use Rattle.scenario.specs.Plan.{vaporOf, poolOf, undiked, pooled, gasPlan, columnIn, factored, liquidPlan, planFor, planOf}
 
 -- the second card holds the same substance in the same way, at least as much of it, and no better contained
 pub record Fuller (a b : ToxicCard) : Type 0 where
@@ -31,7 +31,7 @@ pub record Fuller (a b : ToxicCard) : Type 0 where
   pub entry : a .entry ≡ b .entry
   pub state : a .state ≡ b .state
   pub ground : a .ground ≡ b .ground
-  pub temperature : a .temperature ≡ b .temperature
+  pub tenths : a .tenths ≡ b .tenths
   pub quantity : a .quantity .0 ≤ b .quantity .0
   pub containment : Looser (a .containment) (b .containment)
 
@@ -100,6 +100,13 @@ module _ (a b : ToxicCard) (f : Fuller a b) where
   pool-faster df lf tcf shed endpoint plume =
       record { rate = pool-mono lf tcf shed (area-mono df (f .quantity) (f .containment)); endpoint = refl }
 
+  -- the same with the shed factor of their containments
+  shed-faster : (df lf tcf endpoint : ℕ) (plume : Plume) → Faster (poolOf a df lf tcf (isBuilding (a .containment)) endpoint plume) (poolOf b df lf tcf (isBuilding (b .containment)) endpoint plume)
+  shed-faster df lf tcf endpoint plume =
+      subst (λ k. Faster (poolOf a df lf tcf (isBuilding (a .containment)) endpoint plume) (poolOf b df lf tcf k endpoint plume))
+      (same-kind (f .containment))
+      (pool-faster df lf tcf (isBuilding (a .containment)) endpoint plume)
+
   gas-faster : (st : State) (g : gases.Gas) {s t : Scenario} → gasPlan st a g ≡ planned.Planned s → gasPlan st b g ≡ planned.Planned t → s .route ≡ t .route → Faster s t
   gas-faster Gas g d e r =
       named (undiked-is (a .containment) d) (undiked-is (b .containment) e) (vapor-faster (g .endpoint) (g .plume))
@@ -114,19 +121,18 @@ module _ (a b : ToxicCard) (f : Fuller a b) where
       (pool-faster (g .df) (g .lfb) 100 false (g .endpoint) (g .plume))
       (vapor-faster (g .endpoint) (g .plume))
   gas-faster Liquid g d e r = absurd (not-planned d)
+  gas-faster Solution g d e r = absurd (not-planned d)
 
   liquid-faster : (st : State) (l : liquids.Liquid) {s t : Scenario} → liquidPlan st a l ≡ planned.Planned s → liquidPlan st b l ≡ planned.Planned t → Faster s t
   liquid-faster Gas l d e = absurd (not-planned d)
   liquid-faster Pressurized l d e = absurd (not-planned d)
   liquid-faster Refrigerated l d e = absurd (not-planned d)
-  liquid-faster Liquid l {s} {t} d e = go (factorsOf l (columnOf (a .temperature))) d (subst (λ x. factored (factorsOf l (columnOf x)) b l ≡ planned.Planned t) (sym (f .temperature)) e)
+  liquid-faster Solution l d e = absurd (not-planned d)
+  liquid-faster Liquid l {s} {t} d e = go (factorsOf l (columnIn (a .tenths))) d (subst (λ x. factored (factorsOf l (columnIn x)) b l ≡ planned.Planned t) (sym (f .tenths)) e)
     where
       go : (x : Factors) → factored x a l ≡ planned.Planned s → factored x b l ≡ planned.Planned t → Faster s t
       go (Read lf tcf) p q =
-          named (planned-is p) (planned-is q)
-          (subst (λ k. Faster (poolOf a (l .df) lf tcf (isBuilding (a .containment)) (l .endpoint) (l .plume)) (poolOf b (l .df) lf tcf k (l .endpoint) (l .plume)))
-          (same-kind (f .containment))
-          (pool-faster (l .df) lf tcf (isBuilding (a .containment)) (l .endpoint) (l .plume)))
+          named (planned-is p) (planned-is q) (shed-faster (l .df) lf tcf (l .endpoint) (l .plume))
       go Missing p q = absurd (not-planned p)
 
   entry-faster : (x : Toxic) (st : State) {s t : Scenario} → a .state ≡ st → b .state ≡ st → planFor x a ≡ planned.Planned s → planFor x b ≡ planned.Planned t → s .route ≡ t .route → Faster s t
@@ -134,6 +140,9 @@ module _ (a b : ToxicCard) (f : Fuller a b) where
       gas-faster st g (subst (λ x. gasPlan x a g ≡ planned.Planned s) m d) (subst (λ x. gasPlan x b g ≡ planned.Planned t) n e) r
   entry-faster (variants.OfLiquid l) st {s} {t} m n d e r =
       liquid-faster st l (subst (λ x. liquidPlan x a l ≡ planned.Planned s) m d) (subst (λ x. liquidPlan x b l ≡ planned.Planned t) n e)
+  entry-faster (variants.OfSolution x) st m n d e r =
+      named (planned-is d) (planned-is e) (shed-faster (x .df) (x .lfa) 100 (x .endpoint) (x .plume))
+  entry-faster variants.OutOfRange st m n d e r = absurd (not-planned d)
   entry-faster variants.NotListed st m n d e r = absurd (not-planned d)
 
   -- the law that the two-card law of the layer above is built from

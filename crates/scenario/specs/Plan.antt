@@ -1,4 +1,5 @@
--- Route, rate and choice of table of a toxic card, as document 01 gives them under 'Route and rate' and 'Which table'.
+-- Route, rate and choice of table of a toxic card, as document 01 gives them under 'Route and rate' and 'Which table', and
+-- document 02 in A3 for state 5.
 -- Assumes nothing.
 use Prim.Native.Nat.{ℕ, _≤_}
 use mathlib.Core.Bool.{Bool, true, false}
@@ -10,15 +11,20 @@ use Rattle.exhibits.specs.declared.Toxic.the-variants as variants
 use Rattle.exhibits.specs.Laws.{Within}
 use Rattle.exhibits.specs.declared.Gas as gases
 use Rattle.exhibits.specs.declared.Liquid as liquids
+use Rattle.exhibits.specs.declared.Solution as solutions
 use Rattle.dispersion.specs.declared.Ground.{Ground}
 use Rattle.dispersion.specs.declared.Ground.the-variants.{Rural, Urban}
 use Rattle.release.specs.declared.Containment.{Containment}
 use Rattle.release.specs.declared.Containment.the-variants.{Open, Dike, Building}
 use Rattle.release.specs.Pool.{poolArea, gasRate, poolRate, atMostTenMinutes, beyondDike, isBuilding}
 use Rattle.scenario.specs.declared.State.{State}
-use Rattle.scenario.specs.declared.State.the-variants.{Gas, Pressurized, Refrigerated, Liquid}
+use Rattle.scenario.specs.declared.State.the-variants.{Gas, Pressurized, Refrigerated, Liquid, Solution}
+use Rattle.scenario.specs.declared.Tenths.{Tenths}
+use Rattle.scenario.specs.declared.Tenths.the-variants.{Temperature, Concentration}
 use Rattle.scenario.specs.declared.ToxicCard.{ToxicCard}
 use Rattle.scenario.specs.declared.Scenario.{Scenario}
+use Rattle.factors.specs.declared.Column.{Column}
+use Rattle.factors.specs.declared.Column.the-variants.{At25}
 use Rattle.factors.specs.declared.Factors.{Factors}
 use Rattle.factors.specs.declared.Factors.the-variants.{Read, Missing}
 use Rattle.factors.specs.Factors.{columnOf, factorsOf}
@@ -31,6 +37,7 @@ plumeIn Gas p = p
 plumeIn Pressurized p = Dense
 plumeIn Refrigerated p = Dense
 plumeIn Liquid p = p
+plumeIn Solution p = p
 
 -- "Neutral: Tables 1, 2 rural at 10 and 60 minutes, 3, 4 urban. Dense: 5, 6 rural, 7, 8 urban."
 abbrev pub genericTable : Plume → Ground → Bool → ℕ
@@ -43,14 +50,23 @@ genericTable Dense Rural false = 6
 genericTable Dense Urban true = 7
 genericTable Dense Urban false = 8
 
--- "Ammonia (CAS 7664417): Table 9 in state 2, else 10."
+-- State 5 has "always a 10-minute table"; the others have it where route or duration selects it.
+abbrev pub tenMinutesIn : State → Bool → Bool
+tenMinutesIn Gas ten = ten
+tenMinutesIn Pressurized ten = ten
+tenMinutesIn Refrigerated ten = ten
+tenMinutesIn Liquid ten = ten
+tenMinutesIn Solution ten = true
+
+-- "Ammonia (CAS 7664417): Table 9 in state 2, else 10"; "aqueous ammonia reads Table 10".
 abbrev pub ammoniaTable : State → ℕ
 ammoniaTable Gas = 10
 ammoniaTable Pressurized = 9
 ammoniaTable Refrigerated = 10
 ammoniaTable Liquid = 10
+ammoniaTable Solution = 10
 
--- "Chlorine: 11. Sulfur dioxide (7446095): 12." The last argument says whether the 10-minute table is selected.
+-- "Chlorine: 11. Sulfur dioxide (7446095): 12." The last argument says whether route or duration selects the 10-minute table.
 unfoldable pub tableOf : ℕ → State → Plume → Ground → Bool → ℕ
 tableOf cas state plume ground ten =
     elim (eqb cas 7664417) [
@@ -58,7 +74,7 @@ tableOf cas state plume ground ten =
       | false ↦
           elim (eqb cas 7782505) [
             | true ↦ 11
-            | false ↦ elim (eqb cas 7446095) [ true ↦ 12 | false ↦ genericTable (plumeIn state plume) ground ten ]
+            | false ↦ elim (eqb cas 7446095) [ true ↦ 12 | false ↦ genericTable (plumeIn state plume) ground (tenMinutesIn state ten) ]
           ]
     ]
 
@@ -72,7 +88,7 @@ vaporOf card endpoint plume =
       endpoint = endpoint;
     }
 
--- "Route 2, pool: 1.4 × LF × area × TCF; for state 4 in a building × 0.1 as well", and its duration's table
+-- "Route 2, pool: 1.4 × LF × area × TCF; for state 4 in a building × 0.1 as well", and its duration's table; in state 5 too
 unfoldable pub poolOf : ToxicCard → ℕ → ℕ → ℕ → Bool → ℕ → Plume → Scenario
 poolOf card df lf tcf shed endpoint plume =
     let rate : ℕ = poolRate lf tcf (poolArea (card .quantity .0) df (card .containment)) shed in
@@ -106,6 +122,12 @@ gasPlan Refrigerated card g =
     (poolOf card (g .df) (g .lfb) 100 false (g .endpoint) (g .plume))
     (vaporOf card (g .endpoint) (g .plume))
 gasPlan Liquid card g = planned.Mismatch
+gasPlan Solution card g = planned.Mismatch
+
+-- the column of Exhibit B-4 that a temperature reads; of a solution "the spill is at 25 °C"
+abbrev pub columnIn : Tenths → Column
+columnIn (Temperature t) = columnOf t
+columnIn (Concentration c) = At25
 
 -- a pool with the factors read, or "an exhibit field .. marked as without data"
 abbrev pub factored : Factors → ToxicCard → liquids.Liquid → Planned
@@ -118,12 +140,20 @@ abbrev pub liquidPlan : State → ToxicCard → liquids.Liquid → Planned
 liquidPlan Gas card l = planned.Mismatch
 liquidPlan Pressurized card l = planned.Mismatch
 liquidPlan Refrigerated card l = planned.Mismatch
-liquidPlan Liquid card l = factored (factorsOf l (columnOf (card .temperature))) card l
+liquidPlan Liquid card l = factored (factorsOf l (columnIn (card .tenths))) card l
+liquidPlan Solution card l = planned.Mismatch
+
+-- "It runs route 2 with that LFA (at 1.5 m/s) and DF, TCF 1 and the shed factor of state 4": the line of B-3 that is read
+abbrev pub solutionPlan : ToxicCard → solutions.Solution → Planned
+solutionPlan card s =
+    planned.Planned (poolOf card (s .df) (s .lfa) 100 (isBuilding (card .containment)) (s .endpoint) (s .plume))
 
 -- the scenario of a toxic card, or refusal 10
 abbrev pub planFor : Toxic → ToxicCard → Planned
 planFor (variants.OfGas g) card = gasPlan (card .state) card g
 planFor (variants.OfLiquid l) card = liquidPlan (card .state) card l
+planFor (variants.OfSolution s) card = solutionPlan card s
+planFor variants.OutOfRange card = planned.Mismatch
 planFor variants.NotListed card = planned.Mismatch
 
 unfoldable pub planOf : ToxicCard → Planned

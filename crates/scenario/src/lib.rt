@@ -3,6 +3,7 @@ use dispersion::Ground;
 use exhibits::Gas;
 use exhibits::Liquid;
 use exhibits::Plume;
+use exhibits::Solution;
 use exhibits::Toxic;
 use factors::Column;
 use factors::Factors;
@@ -12,15 +13,22 @@ use units::PoundsPerMinute;
 ghost use mathlib.Core.Path.{_≡_};
 ghost use Prim.Native.Nat.{_≤_};
 ghost use Rattle.exhibits.specs.Laws.{Within};
-ghost use Rattle.factors.specs.Factors.{columnOf};
-ghost use Rattle.scenario.specs.Plan.{tableOf, vaporOf, poolOf, undiked, pooled, gasPlan, factored, liquidPlan, planOf, Limits};
+ghost use Rattle.scenario.specs.Plan.{tableOf, vaporOf, poolOf, undiked, pooled, gasPlan, columnIn, factored, liquidPlan, solutionPlan, planOf, Limits};
 
-// How the substance is held: document 01's states 1 to 4.
+// How the substance is held: document 01's states 1 to 4, and document 02's state 5, a water solution or oleum.
 pub enum State {
     Gas,
     Pressurized,
     Refrigerated,
     Liquid,
+    Solution,
+}
+
+// What bytes 18 and 19 of a card say, and which of the two it is: signed tenths of a degree Celsius, or a solution's tenths of a
+// percent by weight.
+pub enum Tenths {
+    Temperature(i16),
+    Concentration(u16),
 }
 
 // What a toxic card means, once it has been read.
@@ -30,8 +38,7 @@ pub struct ToxicCard {
     pub state: State,
     pub ground: Ground,
     pub quantity: Pounds,
-    // tenths of a degree Celsius
-    pub temperature: i16,
+    pub tenths: Tenths,
     pub containment: Containment,
 }
 
@@ -72,6 +79,7 @@ fn plume_in(state: State, plume: Plume) -> Plume
         State::Pressurized => Plume::Dense,
         State::Refrigerated => Plume::Dense,
         State::Liquid => plume,
+        State::Solution => plume,
     }
 }
 
@@ -83,6 +91,19 @@ fn ammonia_table(state: State) -> u8
         State::Pressurized => 9,
         State::Refrigerated => 10,
         State::Liquid => 10,
+        State::Solution => 10,
+    }
+}
+
+fn ten_minutes_in(state: State, ten_minutes: bool) -> bool
+    ensures { λ r. ⌜ r ≡ Rattle.scenario.specs.Plan.tenMinutesIn state «ten_minutes» ⌝ }
+{
+    match state {
+        State::Gas => ten_minutes,
+        State::Pressurized => ten_minutes,
+        State::Refrigerated => ten_minutes,
+        State::Liquid => ten_minutes,
+        State::Solution => true,
     }
 }
 
@@ -99,7 +120,8 @@ fn table(cas: u32, state: State, plume: Plume, ground: Ground, ten_minutes: bool
     if cas == 7446095 {
         return 12;
     }
-    generic_table(plume_in(state, plume), ground, ten_minutes)
+    let ten = ten_minutes_in(state, ten_minutes);
+    generic_table(plume_in(state, plume), ground, ten)
 }
 
 // Route 1: the whole quantity as a gas over ten minutes.
@@ -204,16 +226,18 @@ fn gas_plan(card: ToxicCard, gas: Gas) -> Planned
     match state {
         State::Gas | State::Pressurized => freed(card, gas),
         State::Refrigerated => refrigerated(card, gas),
-        State::Liquid => Planned::Mismatch,
+        State::Liquid | State::Solution => Planned::Mismatch,
     }
 }
 
-// The column of B-4 that a card's temperature reads.
-fn warmth(card: ToxicCard) -> Column
-    ensures { λ r. ⌜ r ≡ columnOf (card .temperature) ⌝ }
+// The column of B-4 that a card's temperature reads; a solution spills at 25 °C.
+fn warmth(tenths: Tenths) -> Column
+    ensures { λ r. ⌜ r ≡ columnIn tenths ⌝ }
 {
-    let tenths = card.temperature;
-    factors::closest_column(tenths)
+    match tenths {
+        Tenths::Temperature(degrees) => factors::closest_column(degrees),
+        Tenths::Concentration(_) => Column::At25,
+    }
 }
 
 // A liquid's pool, with the factors of its temperature.
@@ -224,7 +248,8 @@ fn spilled(card: ToxicCard, liquid: Liquid) -> Planned
 {
     let containment = card.containment;
     let plume = liquid.plume;
-    let column = warmth(card);
+    let tenths = card.tenths;
+    let column = warmth(tenths);
     let found = factors::factors_at(liquid, column);
     let shed = release::is_building(containment);
     match found {
@@ -250,9 +275,32 @@ fn liquid_plan(card: ToxicCard, liquid: Liquid) -> Planned
 {
     let state = card.state;
     match state {
-        State::Gas | State::Pressurized | State::Refrigerated => Planned::Mismatch,
+        State::Gas | State::Pressurized | State::Refrigerated | State::Solution =>
+            Planned::Mismatch,
         State::Liquid => spilled(card, liquid),
     }
+}
+
+// TCF 1, in hundredths: a solution spills at 25 °C.
+const AT_25: u16 = 100;
+
+// A solution's pool, with the factors of the concentration that is read.
+fn dissolved(card: ToxicCard, solution: Solution) -> Planned
+    requires { ⌜ card .quantity .0 ≤ 10_000_000 ⌝ }
+    requires { ⌜ (solution .lfa ≤ 1_000_000) × (solution .df ≤ 200) ⌝ }
+    ensures { λ r. ⌜ r ≡ solutionPlan card solution ⌝ }
+{
+    let containment = card.containment;
+    let plume = solution.plume;
+    let source = Source {
+        df: solution.df,
+        lf: solution.lfa,
+        tcf: AT_25,
+        shed: release::is_building(containment),
+        endpoint: solution.endpoint,
+        plume,
+    };
+    Planned::Planned(pool(card, source))
 }
 
 // The scenario of a toxic card, or that its state, containment or exhibit allows none.
@@ -264,6 +312,8 @@ pub fn plan(card: ToxicCard) -> Planned
     match entry {
         Toxic::OfGas(gas) => gas_plan(card, gas),
         Toxic::OfLiquid(liquid) => liquid_plan(card, liquid),
+        Toxic::OfSolution(solution) => dissolved(card, solution),
+        Toxic::OutOfRange => Planned::Mismatch,
         Toxic::NotListed => Planned::Mismatch,
     }
 }

@@ -15,6 +15,9 @@ enum-told-3 c = search needs
 enum-told-4 : tie.Need-enum-told-4
 enum-told-4 c = search needs
 
+enum-told-5 : tie.Need-enum-told-5
+enum-told-5 c = search needs
+
 returns : tie.Need-returns
 returns c = search (heat-in, needs)
 
@@ -27,7 +30,20 @@ returns-3 c = search (heat-in, needs)
 returns-4 : tie.Need-returns-4
 returns-4 c = search needs
 
+returns-5 : tie.Need-returns-5
+returns-5 c = search needs
+
 pub heat-fits-spec : {M : Type 1} → statement M
 heat-fits-spec =
     tie.close
-    (tie.spec enum-told enum-told-2 enum-told-3 enum-told-4 returns returns-2 returns-3 returns-4)
+    (tie.spec
+    enum-told
+    enum-told-2
+    enum-told-3
+    enum-told-4
+    enum-told-5
+    returns
+    returns-2
+    returns-3
+    returns-4
+    returns-5)

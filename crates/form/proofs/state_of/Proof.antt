@@ -1,5 +1,5 @@
 use borrow.Author.Needs.{needs}
-use Rattle.form.proofs.Ends.{state-1, state-2, state-3, state-4, no-state}
+use Rattle.form.proofs.Ends.{state-1, state-2, state-3, state-4, state-5, no-state}
 use Rattle.form.proofs.state_of.Statement.{statement}
 use Rattle.form.proofs.state_of.Tie as tie
 
@@ -16,7 +16,10 @@ returns-4 : tie.Need-returns-4
 returns-4 c = search (state-4, needs)
 
 returns-5 : tie.Need-returns-5
-returns-5 c = search (no-state, needs)
+returns-5 c = search (state-5, needs)
+
+returns-6 : tie.Need-returns-6
+returns-6 c = search (no-state, needs)
 
 pub state-of-spec : {M : Type 1} → statement M
-state-of-spec = tie.close (tie.spec returns returns-2 returns-3 returns-4 returns-5)
+state-of-spec = tie.close (tie.spec returns returns-2 returns-3 returns-4 returns-5 returns-6)

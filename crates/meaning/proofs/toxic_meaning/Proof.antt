@@ -5,8 +5,8 @@ use borrow.Author.Needs.{needs}
 use Rattle.meaning.proofs.toxic_meaning.Statement.{statement}
 use Rattle.meaning.proofs.toxic_meaning.Tie as tie
 
-toxic-of-requires : tie.Need-toxic-of-requires
-toxic-of-requires c κs = search needs
+substance-of-requires : tie.Need-substance-of-requires
+substance-of-requires c κs = search needs
 
 is-listed-requires : tie.Need-is-listed-requires
 is-listed-requires c κs = search needs
@@ -39,7 +39,7 @@ pub toxic-meaning-spec : {M : Type 1} → statement M
 toxic-meaning-spec =
     tie.close
     (tie.spec
-    toxic-of-requires
+    substance-of-requires
     is-listed-requires
     returns
     bounds-of-requires

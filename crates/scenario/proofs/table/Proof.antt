@@ -15,6 +15,9 @@ returns-2 c = search (chlorine, needs)
 returns-3 : tie.Need-returns-3
 returns-3 c = search (sulfur, needs)
 
+ten-minutes-in-requires : tie.Need-ten-minutes-in-requires
+ten-minutes-in-requires c κs = search needs
+
 plume-in-requires : tie.Need-plume-in-requires
 plume-in-requires c κs = search needs
 
@@ -32,6 +35,7 @@ table-spec =
     returns
     returns-2
     returns-3
+    ten-minutes-in-requires
     plume-in-requires
     generic-table-requires
     returns-4)
