@@ -13,10 +13,15 @@ use Rattle.search.specs.Places.{either, among}
 use Rattle.units.specs.declared.Reading.{Reading}
 use Rattle.units.specs.declared.Reading.the-variants as reading
 use Rattle.exhibits.specs.declared.Toxic.{Toxic}
+use Rattle.exhibits.specs.Printed.{solution}
 use Rattle.exhibits.specs.Exhibits.{toxicOf}
+use Rattle.exhibits.specs.Solutions.{badConcentration, solutionOf}
+use Rattle.exhibits.specs.SolutionLaws.{Says, a-line, out-of-range, not-listed, says}
 use Rattle.dispersion.specs.Tables.{readingOf}
 use Rattle.blast.specs.Blast.{isFlammable, blastReading}
 use Rattle.scenario.specs.declared.State.{State}
+use Rattle.scenario.specs.declared.Tenths.{Tenths}
+use Rattle.scenario.specs.declared.Tenths.the-variants.{Temperature, Concentration}
 use Rattle.scenario.specs.declared.ToxicCard.{ToxicCard}
 use Rattle.scenario.specs.declared.Planned.{Planned}
 use Rattle.scenario.specs.declared.Planned.the-variants as planned
@@ -38,17 +43,17 @@ use Rattle.form.specs.declared.Shape.the-variants as shape
 use Rattle.meaning.specs.declared.Bounds.{Bounds}
 use Rattle.meaning.specs.declared.Meaning.{Meaning}
 use Rattle.form.specs.Form.{stateOf, groundOf, heldOf, heatFits, shapedHeat, shapedHeld, shapedState, shapedBlank, shapeOf, blank}
-use Rattle.meaning.specs.Reading.{badNumber, badPounds, badArea, badWall, badHeat, signed, boundsIf, boundsOf, toxicBounded, isListed, meaningIf, toxicMeaning, flammableOf, shaped, meaningOf}
+use Rattle.meaning.specs.Reading.{badNumber, badPounds, badArea, badWall, badHeat, signed, tenthsOf, badTenths, substanceOf, isOutOfRange, boundsIf, boundsOf, toxicBounded, isListed, meaningIf, toxicMeaning, flammableOf, shaped, meaningOf}
 use Rattle.form.specs.Inverse.{Stands, toxic-shape, flammable-shape}
 use Rattle.form.specs.Same.{Blank, flammable-blank}
 use Rattle.card.specs.declared.Answered.{Answered}
 use Rattle.card.specs.declared.Answered.the-variants as answered
 use Rattle.card.specs.Answers.{readToxic, plannedAnswer, readFlammable, answerFor, answerOf}
-use Rattle.conditions.specs.Conditions.{ofGas, ofLiquid, ofTable13, badCas, aboveFifty, cellRead, withoutData, mismatched, toxicCard, groundIn, beyondPlan, beyond, ofCard}
+use Rattle.conditions.specs.Conditions.{anyOf, inSolution, ofGas, ofLiquid, ofTable13, ofSolution, badCas, badTemperature, badStrength, mismatched, toxicCard, groundIn, beyondPlan, beyond, ofCard}
 use Rattle.conditions.specs.First.{Verdict, passed, refused, pick, firstOf}
 use Rattle.conditions.specs.Form.{either-last, isRefused, form-is}
 use Rattle.conditions.specs.Substances.{Seen, a-gas, a-liquid, neither, seen}
-use Rattle.conditions.specs.Mismatch.{isMismatch, mismatch-is}
+use Rattle.conditions.specs.Mismatch.{isMismatch, mismatch-none, mismatch-is}
 use Rattle.conditions.specs.Vessel.{cardFrom, card-made, ground-made}
 use Rattle.conditions.specs.Beyond.{isBeyond, reading-beyond, blast-beyond}
 
@@ -68,10 +73,10 @@ meaning-line : (n : ℕ) (b : Bool) (r : Refusal) (further : Meaning) {v : Verdi
 meaning-line n true r further h = refl
 meaning-line n false r further h = h refl
 
--- a check of a toxic card's ranges
-bounds-line : (n : ℕ) (f : Fields) (x : Toxic) (standing : Standing) (b : Bool) (r : Refusal) (further : Bounds) {v : Verdict} → verdictOf (answerFor (toxicBounded further f x standing) n) ≡ v → verdictOf (answerFor (toxicBounded (boundsIf b r further) f x standing) n) ≡ pick b r v
-bounds-line n f x standing true r further h = refl
-bounds-line n f x standing false r further h = h
+-- a check of a toxic card's ranges; the line may say its test in other words
+bounds-line : (n : ℕ) (f : Fields) (x : Toxic) (standing : Standing) (b t : Bool) (r : Refusal) (further : Bounds) {v : Verdict} → b ≡ t → (b ≡ false → verdictOf (answerFor (toxicBounded further f x standing) n) ≡ v) → verdictOf (answerFor (toxicBounded (boundsIf b r further) f x standing) n) ≡ pick t r v
+bounds-line n f x standing true t r further {v} e h = ap (λ c. pick c r v) e
+bounds-line n f x standing false t r further {v} e h = h refl ∙ ap (λ c. pick c r v) e
 
 -- a line whose test fails is passed over
 unmet : (b : Bool) (r : Refusal) {v w : Verdict} → b ≡ false → v ≡ w → v ≡ pick b r w
@@ -105,16 +110,17 @@ form-refused f {r} e = go (eqb (f .kind) 1) (eqb (f .kind) 2) e
     go false false q = cc
 
 -- 7 for each kind
-cas-toxic : (card : List ℕ) → byteAt card 0 ≡ 1 → badCas card ≡ not (either (ofGas card) (ofLiquid card))
+cas-toxic : (card : List ℕ) → byteAt card 0 ≡ 1 → badCas card ≡ either (both (not (inSolution card)) (not (either (ofGas card) (ofLiquid card)))) (both (inSolution card) (not (ofSolution card)))
 unfolding badCas
 cas-toxic card e =
-    ap (λ k. either (both (eqb k 1) (not (either (ofGas card) (ofLiquid card)))) (both (eqb k 2) (not (ofTable13 card)))) e
-    ∙ either-last (not (either (ofGas card) (ofLiquid card)))
+    ap (λ k. anyOf (both (eqb k 1) (both (not (inSolution card)) (not (either (ofGas card) (ofLiquid card)))) ∷ both (eqb k 1) (both (inSolution card) (not (ofSolution card))) ∷ both (eqb k 2) (not (ofTable13 card)) ∷ [])) e
+    ∙ ap (either (both (not (inSolution card)) (not (either (ofGas card) (ofLiquid card))))) (either-last (both (inSolution card) (not (ofSolution card))))
 
 cas-flammable : (card : List ℕ) → byteAt card 0 ≡ 2 → badCas card ≡ not (ofTable13 card)
 unfolding badCas
 cas-flammable card e =
-    ap (λ k. either (both (eqb k 1) (not (either (ofGas card) (ofLiquid card)))) (both (eqb k 2) (not (ofTable13 card)))) e
+    ap (λ k. anyOf (both (eqb k 1) (both (not (inSolution card)) (not (either (ofGas card) (ofLiquid card)))) ∷ both (eqb k 1) (both (inSolution card) (not (ofSolution card))) ∷ both (eqb k 2) (not (ofTable13 card)) ∷ [])) e
+    ∙ either-last (not (ofTable13 card))
 
 -- 11 for each kind
 beyond-toxic : (card : List ℕ) (standing : Standing) → Stands (fieldsOf card) standing → beyond card ≡ beyondPlan (planOf (cardFrom (fieldsOf card) standing)) (standing .ground)
@@ -129,14 +135,69 @@ unfolding beyond
 beyond-flammable card e =
     ap (λ k. either (both (eqb k 1) (beyondPlan (planOf (toxicCard card)) (groundIn (byteAt card 2)))) (both (eqb k 2) (ltb 2_000_000 (fieldsOf card .pounds)))) e
 
-listed-is : (card : List ℕ) → either (ofGas card) (ofLiquid card) ≡ isListed (toxicOf (fieldsOf card .cas))
+-- what the exhibits list, and whether a concentration is out of range, by byte 1
+pure-listed : (card : List ℕ) → either (ofGas card) (ofLiquid card) ≡ isListed (toxicOf (fieldsOf card .cas))
 unfolding ofGas ofLiquid
-listed-is card = go (toxicOf (fieldsOf card .cas)) (seen (fieldsOf card .cas))
+pure-listed card = go (toxicOf (fieldsOf card .cas)) (seen (fieldsOf card .cas))
   where
     go : (x : Toxic) → Seen (fieldsOf card .cas) x → either (ofGas card) (ofLiquid card) ≡ isListed x
     go _ (a-gas g p q) = ap₂ either p q
     go _ (a-liquid l p q c) = ap₂ either p q
     go _ (neither p q) = ap₂ either p q
+
+pure-in-range : (cas : ℕ) → isOutOfRange (toxicOf cas) ≡ false
+pure-in-range cas = go (toxicOf cas) (seen cas)
+  where
+    go : (x : Toxic) → Seen cas x → isOutOfRange x ≡ false
+    go _ (a-gas g p q) = refl
+    go _ (a-liquid l p q c) = refl
+    go _ (neither p q) = refl
+
+solution-listed : (card : List ℕ) → ofSolution card ≡ isListed (solutionOf (fieldsOf card .cas) (fieldsOf card .heat))
+unfolding ofSolution
+solution-listed card = go (solutionOf (fieldsOf card .cas) (fieldsOf card .heat)) (says (fieldsOf card .cas) (fieldsOf card .heat))
+  where
+    go : (x : Toxic) → Says (fieldsOf card .cas) (fieldsOf card .heat) x → ofSolution card ≡ isListed x
+    go _ (a-line (solution c t e a d p) l q r) = l
+    go _ (out-of-range l q) = l
+    go _ (not-listed l) = l
+
+solution-range : (cas tenths : ℕ) → isListed (solutionOf cas tenths) ≡ true → isOutOfRange (solutionOf cas tenths) ≡ badConcentration cas tenths
+solution-range cas tenths h = go (solutionOf cas tenths) (says cas tenths) h
+  where
+    go : (x : Toxic) → Says cas tenths x → isListed x ≡ true → isOutOfRange x ≡ badConcentration cas tenths
+    go _ (a-line (solution c t e a d p) l q r) h = sym q
+    go _ (out-of-range l q) h = sym q
+    go _ (not-listed l) h = clash (cc)
+
+module _ (card : List ℕ) where
+  -- 7 of a toxic card
+  listed-is : byteAt card 0 ≡ 1 → badCas card ≡ not (isListed (substanceOf (fieldsOf card)))
+  unfolding substanceOf fieldsOf
+  listed-is e = cas-toxic card e ∙ go (eqb (byteAt card 1) 5)
+    where
+      go : (b : Bool) → either (both (not b) (not (either (ofGas card) (ofLiquid card)))) (both b (not (ofSolution card))) ≡ not (isListed (elim b as (λ _. Toxic) [ true ↦ solutionOf (fieldsOf card .cas) (fieldsOf card .heat) | false ↦ toxicOf (fieldsOf card .cas) ]))
+      go true = ap not (solution-listed card)
+      go false = either-last (not (either (ofGas card) (ofLiquid card))) ∙ ap not (pure-listed card)
+
+  -- 15
+  heat-is : badTenths (tenthsOf (fieldsOf card)) ≡ badTemperature card
+  unfolding tenthsOf fieldsOf
+  heat-is = go (eqb (byteAt card 1) 5)
+    where
+      go : (b : Bool) → badTenths (elim b as (λ _. Tenths) [ true ↦ Concentration (fieldsOf card .heat) | false ↦ Temperature (signed (fieldsOf card .heat)) ]) ≡ both (not b) (badHeat (signed (fieldsOf card .heat)))
+      go true = refl
+      go false = refl
+
+  -- 16
+  strength-is : isListed (substanceOf (fieldsOf card)) ≡ true → isOutOfRange (substanceOf (fieldsOf card)) ≡ badStrength card
+  unfolding substanceOf fieldsOf
+  strength-is h = go (eqb (byteAt card 1) 5) h
+    where
+      go : (b : Bool) → isListed (elim b as (λ _. Toxic) [ true ↦ solutionOf (fieldsOf card .cas) (fieldsOf card .heat) | false ↦ toxicOf (fieldsOf card .cas) ]) ≡ true
+          → isOutOfRange (elim b as (λ _. Toxic) [ true ↦ solutionOf (fieldsOf card .cas) (fieldsOf card .heat) | false ↦ toxicOf (fieldsOf card .cas) ]) ≡ both b (badConcentration (fieldsOf card .cas) (fieldsOf card .heat))
+      go true h = solution-range (fieldsOf card .cas) (fieldsOf card .heat) h
+      go false h = pure-in-range (fieldsOf card .cas)
 
 -- ---- a toxic card
 
@@ -150,23 +211,23 @@ plan-verdict n (planned.Planned s) card =
     go reading.Beyond = refl
 plan-verdict n planned.Mismatch card = refl
 
-toxic-verdict : (card : List ℕ) (n : ℕ) (standing : Standing) → shapeOf (fieldsOf card) ≡ shape.Toxic standing → verdictOf (answerFor (toxicMeaning (toxicOf (fieldsOf card .cas)) (fieldsOf card) standing) n) ≡ behindForm card
+toxic-verdict : (card : List ℕ) (n : ℕ) (standing : Standing) → shapeOf (fieldsOf card) ≡ shape.Toxic standing → verdictOf (answerFor (toxicMeaning (substanceOf (fieldsOf card)) (fieldsOf card) standing) n) ≡ behindForm card
 unfolding toxicMeaning boundsOf fieldsOf ofCard firstOf
 toxic-verdict card n standing e =
     let f : Fields = fieldsOf card in
-    let x : Toxic = toxicOf (f .cas) in
+    let x : Toxic = substanceOf f in
     let made : ToxicCard = cardFrom f standing in
     let from = toxic-shape f e in
-    let known : badCas card ≡ not (isListed x) = cas-toxic card (from .kind) ∙ ap not (listed-is card) in
-    rw known
+    rw (listed-is card (from .kind))
     (meaning-line n (not (isListed x)) _ _
     (λ l.
-    bounds-line n f x standing (badPounds (f .pounds)) _ _
-    (bounds-line n f x standing (badArea (f .containment) (f .area)) _ _
-    (bounds-line n f x standing (badWall (f .wall)) _ _
-    (bounds-line n f x standing (badHeat (signed (f .heat))) _ _
-    (plan-verdict n (planOf made) made
-    ∙ ap₂ (λ m b. pick m refusal.Mismatch (pick b refusal.Beyond passed)) (sym (mismatch-is card standing from (not-false (isListed x) l))) (sym (beyond-toxic card standing from))))))))
+    bounds-line n f x standing (badPounds (f .pounds)) _ _ _ refl
+    (λ _. bounds-line n f x standing (badArea (f .containment) (f .area)) _ _ _ refl
+    (λ _. bounds-line n f x standing (badWall (f .wall)) _ _ _ refl
+    (λ _. bounds-line n f x standing (badTenths (tenthsOf f)) _ _ _ (heat-is card)
+    (λ _. bounds-line n f x standing (isOutOfRange x) _ _ _ (strength-is card (not-false (isListed x) l))
+    (λ r. plan-verdict n (planOf made) made
+    ∙ ap₂ (λ m b. pick m refusal.Mismatch (pick b refusal.Beyond passed)) (sym (mismatch-is card standing from (not-false (isListed x) l) r)) (sym (beyond-toxic card standing from)))))))))
 
 -- ---- a flammable card
 
@@ -179,25 +240,17 @@ wall-blank : (card : List ℕ) → Blank (fieldsOf card) → badWall (fieldsOf c
 unfolding badWall
 wall-blank card b = ap badWall (b .wall)
 
-heat-blank : (card : List ℕ) → Blank (fieldsOf card) → badHeat (signed (fieldsOf card .heat)) ≡ false
-unfolding badHeat signed
-heat-blank card b = ap (λ h. badHeat (signed h)) (b .heat)
+heat-blank : (card : List ℕ) → Blank (fieldsOf card) → badTemperature card ≡ false
+unfolding badHeat signed fieldsOf
+heat-blank card b = ap₂ (λ s h. both (not (eqb s 5)) (badHeat (signed h))) (b .state) (b .heat)
 
-none-stands : (g l d x : Bool) → either (both g false) (either (both l false) (either (both d false) (either (both false x) false))) ≡ false
-none-stands true true true x = refl
-none-stands true true false x = refl
-none-stands true false true x = refl
-none-stands true false false x = refl
-none-stands false true true x = refl
-none-stands false true false x = refl
-none-stands false false true x = refl
-none-stands false false false x = refl
+strength-blank : (card : List ℕ) → Blank (fieldsOf card) → badStrength card ≡ false
+unfolding fieldsOf
+strength-blank card b = ap (λ s. both (eqb s 5) (badConcentration (fieldsOf card .cas) (fieldsOf card .heat))) (b .state)
 
 mismatch-blank : (card : List ℕ) → Blank (fieldsOf card) → mismatched card ≡ false
-unfolding mismatched fieldsOf among
-mismatch-blank card b =
-    ap (λ s. either (both (ofGas card) (eqb s 4)) (either (both (ofLiquid card) (among s (1 ∷ 2 ∷ 3 ∷ []))) (either (both (eqb (byteAt card 3) 1) (among s (1 ∷ 2 ∷ []))) (either (both (eqb s 4) (both (not (aboveFifty card)) (withoutData (cellRead card)))) false)))) (b .state)
-    ∙ none-stands (ofGas card) (ofLiquid card) (eqb (byteAt card 3) 1) (both (not (aboveFifty card)) (withoutData (cellRead card)))
+unfolding among fieldsOf
+mismatch-blank card b = mismatch-none card 0 (b .state) refl
 
 flammable-verdict : (card : List ℕ) (n : ℕ) → shapeOf (fieldsOf card) ≡ shape.Flammable → verdictOf (answerFor (flammableOf (fieldsOf card)) n) ≡ behindForm card
 unfolding flammableOf fieldsOf ofTable13 isFlammable ofCard firstOf
@@ -212,10 +265,11 @@ flammable-verdict card n e =
     (λ _.
     unmet (badArea (byteAt card 3) (f .area)) refusal.Area (area-blank card b)
     (unmet (badWall (f .wall)) refusal.Wall (wall-blank card b)
-    (unmet (badHeat (signed (f .heat))) refusal.Temperature (heat-blank card b)
+    (unmet (badTemperature card) refusal.Temperature (heat-blank card b)
+    (unmet (badStrength card) refusal.Concentration (strength-blank card b)
     (unmet (mismatched card) refusal.Mismatch (mismatch-blank card b)
     (go (blastReading (f .cas) (f .pounds))
-    ∙ ap (λ t. pick t refusal.Beyond passed) (sym (beyond-flammable card kind ∙ blast-beyond (f .cas) (f .pounds) (not-false (isFlammable (f .cas)) l))))))))))
+    ∙ ap (λ t. pick t refusal.Beyond passed) (sym (beyond-flammable card kind ∙ blast-beyond (f .cas) (f .pounds) (not-false (isFlammable (f .cas)) l)))))))))))
   where
     go : (x : Reading) → verdictOf (readFlammable x n) ≡ pick (isBeyond x) refusal.Beyond passed
     go (reading.Distance d) = refl

@@ -47,7 +47,7 @@ RefusedExactly =
 abbrev pub numberIn : Condition → ℕ
 numberIn (condition r b) = numberOf r
 
--- The lines stand in the order of document 01's numbers, with 14 and 15 "where 9 was", behind it and above 10.
-pub numbered : (bytes : List ℕ) (room place : ℕ) → map numberIn (conditionsAt bytes room place) ≡ 1 ∷ 2 ∷ 3 ∷ 4 ∷ 5 ∷ 6 ∷ 7 ∷ 8 ∷ 9 ∷ 14 ∷ 15 ∷ 10 ∷ 11 ∷ []
+-- The lines stand in the order of document 01's numbers, with 14, 15 and 16 "where 9 was", behind it and above 10.
+pub numbered : (bytes : List ℕ) (room place : ℕ) → map numberIn (conditionsAt bytes room place) ≡ 1 ∷ 2 ∷ 3 ∷ 4 ∷ 5 ∷ 6 ∷ 7 ∷ 8 ∷ 9 ∷ 14 ∷ 15 ∷ 16 ∷ 10 ∷ 11 ∷ []
 unfolding conditionsAt only ofRegister ofCard
 numbered bytes room place = refl

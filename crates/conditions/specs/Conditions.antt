@@ -14,7 +14,9 @@ use Rattle.exhibits.specs.declared.Cell.{Cell}
 use Rattle.exhibits.specs.declared.Cell.the-variants.{Factor, Lfb, NoData}
 use Rattle.exhibits.specs.PrintedB1.{b1}
 use Rattle.exhibits.specs.PrintedB2.{b2}
-use Rattle.exhibits.specs.Exhibits.{gasCas, liquidCas, factorsOf, toxicOf}
+use Rattle.exhibits.specs.PrintedB3.{b3}
+use Rattle.exhibits.specs.Exhibits.{gasCas, liquidCas, factorsOf}
+use Rattle.exhibits.specs.Solutions.{solutionCas, badConcentration}
 use Rattle.dispersion.specs.declared.Ground.{Ground}
 use Rattle.dispersion.specs.declared.Ground.the-variants.{Rural, Urban}
 use Rattle.rules.specs.Rules.{distance, inUse, larger, closest, closestColumn, fromColumn, thousandths, lastOf, past, markOf, mileLimit}
@@ -24,7 +26,7 @@ use Rattle.blast.specs.Printed13.{table13}
 use Rattle.release.specs.declared.Containment.{Containment}
 use Rattle.release.specs.declared.Containment.the-variants.{Open, Dike, Building}
 use Rattle.scenario.specs.declared.State.{State}
-use Rattle.scenario.specs.declared.State.the-variants.{Gas, Pressurized, Refrigerated, Liquid}
+use Rattle.scenario.specs.declared.State.the-variants.{Gas, Pressurized, Refrigerated, Liquid, Solution}
 use Rattle.scenario.specs.declared.ToxicCard.{ToxicCard}
 use Rattle.scenario.specs.declared.Planned.{Planned}
 use Rattle.scenario.specs.declared.Planned.the-variants as planned
@@ -34,7 +36,7 @@ use Rattle.buffer.specs.Numbers.{byteAt}
 use Rattle.fields.specs.Layout.{fieldsOf}
 use Rattle.refusals.specs.declared.Refusal.{Refusal}
 use Rattle.refusals.specs.declared.Refusal.the-variants as refusal
-use Rattle.meaning.specs.Reading.{badNumber, badPounds, badArea, badWall, badHeat, signed}
+use Rattle.meaning.specs.Reading.{badNumber, badPounds, badArea, badWall, badHeat, signed, tenthsOf, substanceOf}
 use Rattle.header.specs.Header.{badLength, badVersion, badCount, badBuffer, countOf}
 use Rattle.ordering.specs.Claim.{cardAt}
 
@@ -59,12 +61,16 @@ toxic card = eqb (byteAt card 0) 1
 abbrev pub flammable : List ℕ → Bool
 flammable card = eqb (byteAt card 0) 2
 
+-- document 02, A3: "State 5 is a solution of a B-3 substance."
+abbrev pub inSolution : List ℕ → Bool
+inSolution card = eqb (byteAt card 1) 5
+
 -- a toxic card's bytes 1 to 3 unlisted, or a field filled that must be zero
 unfoldable pub badToxic : List ℕ → Bool
 badToxic card =
     anyOf (
-    -- "1: state, 1 gas, 2 gas liquefied under pressure, 3 gas liquefied by refrigeration alone, 4 liquid."
-    unlisted (byteAt card 1) (1 ∷ 2 ∷ 3 ∷ 4 ∷ [])
+    -- "1: state, 1 gas, 2 gas liquefied under pressure, 3 gas liquefied by refrigeration alone, 4 liquid"; "Byte 1 now admits 5"
+    unlisted (byteAt card 1) (1 ∷ 2 ∷ 3 ∷ 4 ∷ 5 ∷ [])
     -- "2: ground, 1 rural, 2 urban."
     ∷ unlisted (byteAt card 2) (1 ∷ 2 ∷ [])
     -- "3: containment, 0 open, 1 dike, 2 building."
@@ -73,8 +79,8 @@ badToxic card =
     ∷ both (eqb (byteAt card 3) 0) (filled card (12 ∷ 13 ∷ 14 ∷ 15 ∷ []))
     -- "16, 17: wall ..; zero unless a dike."
     ∷ both (not (eqb (byteAt card 3) 1)) (filled card (16 ∷ 17 ∷ []))
-    -- "18, 19: .. for state 4; zero otherwise."
-    ∷ both (not (eqb (byteAt card 1) 4)) (filled card (18 ∷ 19 ∷ []))
+    -- "18, 19: .. for state 4; zero otherwise"; in state 5 a concentration "takes the temperature's place"
+    ∷ both (unlisted (byteAt card 1) (4 ∷ 5 ∷ [])) (filled card (18 ∷ 19 ∷ []))
     ∷ []
     )
 
@@ -102,12 +108,27 @@ ofLiquid card = among (fieldsOf card .cas) (map liquidCas b2)
 unfoldable pub ofTable13 : List ℕ → Bool
 ofTable13 card = among (fieldsOf card .cas) (map casOf table13)
 
--- 7: "CAS number not listed for the kind"
+-- the substances of Exhibit B-3
+unfoldable pub ofSolution : List ℕ → Bool
+ofSolution card = among (fieldsOf card .cas) (map solutionCas b3)
+
+-- 7: "CAS number not listed for the kind", and "in state 5 number 7 looks in B-3"
 unfoldable pub badCas : List ℕ → Bool
 badCas card =
-    either
-    (both (toxic card) (not (either (ofGas card) (ofLiquid card))))
-    (both (flammable card) (not (ofTable13 card)))
+    anyOf (
+    both (toxic card) (both (not (inSolution card)) (not (either (ofGas card) (ofLiquid card))))
+    ∷ both (toxic card) (both (inSolution card) (not (ofSolution card)))
+    ∷ both (flammable card) (not (ofTable13 card))
+    ∷ []
+    )
+
+-- 15: "temperature out of range"; in state 5 there is none
+abbrev pub badTemperature : List ℕ → Bool
+badTemperature card = both (not (inSolution card)) (badHeat (signed (fieldsOf card .heat)))
+
+-- 16: "concentration zero or above the highest printed"
+abbrev pub badStrength : List ℕ → Bool
+badStrength card = both (inSolution card) (badConcentration (fieldsOf card .cas) (fieldsOf card .heat))
 
 -- the column of Exhibit B-4 that a temperature reads: "the closest column of B-4, the higher at a midpoint; 25 °C counts as a
 -- column .., and lower temperatures read it"
@@ -174,11 +195,17 @@ beyondTable table ground rate endpoint =
     both (aboveLast table rate endpoint) (not (eqb (lastInUse table ground endpoint) mileLimit))
 
 -- what bytes 1 to 3 say of a card whose form is sound: "1 gas, 2 gas liquefied under pressure, 3 gas liquefied by refrigeration
--- alone, 4 liquid"
+-- alone, 4 liquid", and 5 a solution
 unfoldable pub stateIn : ℕ → State
 stateIn b =
-    elim (eqb b 1)
-    [ true ↦ Gas | false ↦ elim (eqb b 2) [ true ↦ Pressurized | false ↦ elim (eqb b 3) [ true ↦ Refrigerated | false ↦ Liquid ] ] ]
+    elim (eqb b 1) [
+      | true ↦ Gas
+      | false ↦
+          elim (eqb b 2) [
+            | true ↦ Pressurized
+            | false ↦ elim (eqb b 3) [ true ↦ Refrigerated | false ↦ elim (eqb b 4) [ true ↦ Liquid | false ↦ Solution ] ]
+          ]
+    ]
 
 -- "1 rural, 2 urban"
 unfoldable pub groundIn : ℕ → Ground
@@ -197,11 +224,11 @@ abbrev pub toxicCard : List ℕ → ToxicCard
 toxicCard card =
     record {
       cas = fieldsOf card .cas;
-      entry = toxicOf (fieldsOf card .cas);
+      entry = substanceOf (fieldsOf card);
       state = stateIn (byteAt card 1);
       ground = groundIn (byteAt card 2);
       quantity = record { 0 = fieldsOf card .pounds };
-      temperature = signed (fieldsOf card .heat);
+      tenths = tenthsOf (fieldsOf card);
       containment = heldIn (byteAt card 3) (fieldsOf card .area) (fieldsOf card .wall);
     }
 
@@ -230,8 +257,8 @@ ofRegister bytes room =
     ∷ condition refusal.Buffer (badBuffer bytes room)
     ∷ []
 
--- 5 to 11, 14 and 15, of a card and the number of the card before it. Document 02, A2: 9 "becomes area only; area, wall and
--- temperature are checked in that order, where 9 was".
+-- 5 to 11 and 14 to 16, of a card and the number of the card before it. Document 02, A2: 9 "becomes area only; area, wall and
+-- temperature are checked in that order, where 9 was"; A3: 16 stands "at temperature's place in the order".
 unfoldable pub ofCard : List ℕ → ℕ → List Condition
 ofCard card last =
     condition refusal.Number (badNumber (fieldsOf card .number) last)
@@ -240,7 +267,8 @@ ofCard card last =
     ∷ condition refusal.Quantity (badPounds (fieldsOf card .pounds))
     ∷ condition refusal.Area (badArea (byteAt card 3) (fieldsOf card .area))
     ∷ condition refusal.Wall (badWall (fieldsOf card .wall))
-    ∷ condition refusal.Temperature (badHeat (signed (fieldsOf card .heat)))
+    ∷ condition refusal.Temperature (badTemperature card)
+    ∷ condition refusal.Concentration (badStrength card)
     ∷ condition refusal.Mismatch (mismatched card)
     ∷ condition refusal.Beyond (beyond card)
     ∷ []

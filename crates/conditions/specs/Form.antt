@@ -14,7 +14,7 @@ use Rattle.search.specs.Places.{either, among}
 use Rattle.dispersion.specs.declared.Ground.the-variants.{Rural, Urban}
 use Rattle.release.specs.declared.Containment.the-variants.{Open, Dike, Building}
 use Rattle.scenario.specs.declared.State.{State}
-use Rattle.scenario.specs.declared.State.the-variants.{Gas, Pressurized, Refrigerated, Liquid}
+use Rattle.scenario.specs.declared.State.the-variants.{Gas, Pressurized, Refrigerated, Liquid, Solution}
 use Rattle.fields.specs.declared.Fields.{Fields}
 use Rattle.buffer.specs.Numbers.{byteAt, twoAt, fourAt}
 use Rattle.fields.specs.Layout.{fieldsOf}
@@ -120,16 +120,17 @@ blank-form card =
     go false = refl
 
 -- bytes 1 to 3 of a toxic card
-state-form : (b : ℕ) → unlisted b (1 ∷ 2 ∷ 3 ∷ 4 ∷ []) ≡ noState (stateOf b)
+state-form : (b : ℕ) → unlisted b (1 ∷ 2 ∷ 3 ∷ 4 ∷ 5 ∷ []) ≡ noState (stateOf b)
 unfolding unlisted among stateOf
-state-form b = go (eqb b 1) (eqb b 2) (eqb b 3) (eqb b 4)
+state-form b = go (eqb b 1) (eqb b 2) (eqb b 3) (eqb b 4) (eqb b 5)
   where
-    go : (p q r s : Bool) → not (either p (either q (either r (either s false)))) ≡ noState (elim p as (λ _. StateByte) [ true ↦ stateByte.Is Gas | false ↦ elim q as (λ _. StateByte) [ true ↦ stateByte.Is Pressurized | false ↦ elim r as (λ _. StateByte) [ true ↦ stateByte.Is Refrigerated | false ↦ elim s as (λ _. StateByte) [ true ↦ stateByte.Is Liquid | false ↦ stateByte.Unlisted ] ] ] ])
-    go true q r s = refl
-    go false true r s = refl
-    go false false true s = refl
-    go false false false true = refl
-    go false false false false = refl
+    go : (p q r s t : Bool) → not (either p (either q (either r (either s (either t false))))) ≡ noState (elim p as (λ _. StateByte) [ true ↦ stateByte.Is Gas | false ↦ elim q as (λ _. StateByte) [ true ↦ stateByte.Is Pressurized | false ↦ elim r as (λ _. StateByte) [ true ↦ stateByte.Is Refrigerated | false ↦ elim s as (λ _. StateByte) [ true ↦ stateByte.Is Liquid | false ↦ elim t as (λ _. StateByte) [ true ↦ stateByte.Is Solution | false ↦ stateByte.Unlisted ] ] ] ] ])
+    go true q r s t = refl
+    go false true r s t = refl
+    go false false true s t = refl
+    go false false false true t = refl
+    go false false false false true = refl
+    go false false false false false = refl
 
 ground-form : (b : ℕ) → unlisted b (1 ∷ 2 ∷ []) ≡ noGround (groundOf b)
 unfolding unlisted among groundOf
@@ -176,22 +177,23 @@ held-form (suc (suc (suc n))) area wall = go (eqb wall 0) (eqb (suc (suc (suc n)
     go q false true m a b c = let z : _≡_ {A = ℕ} 0 1 = cc in clash z
     go q false false true a b c = let z : _≡_ {A = ℕ} 0 1 = cc in clash z
 
--- a byte above 4 is no state
-pub no-state : (b : ℕ) → 4 < b → stateOf b ≡ stateByte.Unlisted
+-- a byte above 5 is no state
+pub no-state : (b : ℕ) → 5 < b → stateOf b ≡ stateByte.Unlisted
 unfolding stateOf
 no-state b h =
-    simp (ne-eqb b 1 (λ e. omega arith), ne-eqb b 2 (λ e. omega arith), ne-eqb b 3 (λ e. omega arith), ne-eqb b 4 (λ e. omega arith), stateOf)
+    simp (ne-eqb b 1 (λ e. omega arith), ne-eqb b 2 (λ e. omega arith), ne-eqb b 3 (λ e. omega arith), ne-eqb b 4 (λ e. omega arith), ne-eqb b 5 (λ e. omega arith), stateOf)
 
--- the temperature, which is "for state 4; zero otherwise"
-heat-form : (b heat : ℕ) (s : State) → stateOf b ≡ stateByte.Is s → both (not (eqb b 4)) (not (eqb heat 0)) ≡ not (heatFits s heat)
-unfolding stateOf
+-- the temperature, which is "for state 4; zero otherwise", or the concentration for state 5
+heat-form : (b heat : ℕ) (s : State) → stateOf b ≡ stateByte.Is s → both (unlisted b (4 ∷ 5 ∷ [])) (not (eqb heat 0)) ≡ not (heatFits s heat)
+unfolding stateOf unlisted among
 heat-form zero heat s e = let z : _≡_ {A = ℕ} 0 1 = cc in clash z
 heat-form (suc zero) heat s e = ap (λ x. not (heatFits x heat)) (state-is e)
 heat-form (suc (suc zero)) heat s e = ap (λ x. not (heatFits x heat)) (state-is e)
 heat-form (suc (suc (suc zero))) heat s e = ap (λ x. not (heatFits x heat)) (state-is e)
 heat-form (suc (suc (suc (suc zero)))) heat s e = ap (λ x. not (heatFits x heat)) (state-is e)
-heat-form (suc (suc (suc (suc (suc n))))) heat s e =
-    let none : stateOf (suc (suc (suc (suc (suc n))))) ≡ stateByte.Unlisted = no-state (suc (suc (suc (suc (suc n))))) (omega arith) in
+heat-form (suc (suc (suc (suc (suc zero))))) heat s e = ap (λ x. not (heatFits x heat)) (state-is e)
+heat-form (suc (suc (suc (suc (suc (suc n)))))) heat s e =
+    let none : stateOf (suc (suc (suc (suc (suc (suc n)))))) ≡ stateByte.Unlisted = no-state (suc (suc (suc (suc (suc (suc n)))))) (omega arith) in
     let z : _≡_ {A = ℕ} 0 1 = cc in
     clash z
 
@@ -238,7 +240,7 @@ module _ (card : List ℕ) where
   strayWall = both (not (eqb (byteAt card 3) 1)) (filled card (16 ∷ 17 ∷ []))
 
   abbrev strayHeat : Bool
-  strayHeat = both (not (eqb (byteAt card 1) 4)) (filled card (18 ∷ 19 ∷ []))
+  strayHeat = both (unlisted (byteAt card 1) (4 ∷ 5 ∷ [])) (filled card (18 ∷ 19 ∷ []))
 
   vessel-form : either noVessel (either strayArea strayWall) ≡ isFilled (heldOf (byteAt card 3) (fourAt card 12) (twoAt card 16))
   vessel-form =
@@ -249,7 +251,7 @@ module _ (card : List ℕ) where
   unfolding badToxic fieldsOf
   toxic-form = go (stateOf (byteAt card 1)) refl (state-form (byteAt card 1))
     where
-      go : (x : StateByte) → stateOf (byteAt card 1) ≡ x → unlisted (byteAt card 1) (1 ∷ 2 ∷ 3 ∷ 4 ∷ []) ≡ noState x → badToxic card ≡ isRefused (shapedState x (fieldsOf card))
+      go : (x : StateByte) → stateOf (byteAt card 1) ≡ x → unlisted (byteAt card 1) (1 ∷ 2 ∷ 3 ∷ 4 ∷ 5 ∷ []) ≡ noState x → badToxic card ≡ isRefused (shapedState x (fieldsOf card))
       go stateByte.Unlisted e p =
           ap (λ t. either t (either noPlace (either noVessel (either strayArea (either strayWall (either strayHeat false)))))) p
       go (stateByte.Is s) e p =
@@ -257,7 +259,7 @@ module _ (card : List ℕ) where
           ∙ in-turn (fieldsOf card) s noPlace noVessel strayArea strayWall strayHeat
           (groundOf (byteAt card 2)) (heldOf (byteAt card 3) (fourAt card 12) (twoAt card 16))
           (ground-form (byteAt card 2)) vessel-form
-          (ap (both (not (eqb (byteAt card 1) 4))) (heat-filled card) ∙ heat-form (byteAt card 1) (twoAt card 18) s e)
+          (ap (both (unlisted (byteAt card 1) (4 ∷ 5 ∷ []))) (heat-filled card) ∙ heat-form (byteAt card 1) (twoAt card 18) s e)
 
 -- a shape is refused where the card's bytes and fields are
 shape-form : (k : ℕ) (t f : Bool) (x y : Shape) → t ≡ isRefused x → f ≡ isRefused y → either (unlisted k (1 ∷ 2 ∷ [])) (either (both (eqb k 1) t) (either (both (eqb k 2) f) false)) ≡ isRefused (elim (eqb k 1) as (λ _. Shape) [ true ↦ x | false ↦ elim (eqb k 2) as (λ _. Shape) [ true ↦ y | false ↦ shape.Refused refusal.Form ] ])

@@ -39,7 +39,7 @@ pub lines-numbered : (text : List ℕ) (room place : ℕ) → map numberIn (line
 unfolding linesAt roomAt only
 lines-numbered text room place = refl
 
-pub writing-numbered : (register : List ℕ) (room place : ℕ) → map numberIn (writingAt register room place) ≡ 1 ∷ 2 ∷ 3 ∷ 4 ∷ 5 ∷ 6 ∷ 7 ∷ 8 ∷ 9 ∷ 14 ∷ 15 ∷ 10 ∷ 11 ∷ 13 ∷ []
+pub writing-numbered : (register : List ℕ) (room place : ℕ) → map numberIn (writingAt register room place) ≡ 1 ∷ 2 ∷ 3 ∷ 4 ∷ 5 ∷ 6 ∷ 7 ∷ 8 ∷ 9 ∷ 14 ∷ 15 ∷ 16 ∷ 10 ∷ 11 ∷ 13 ∷ []
 unfolding writingAt roomAt conditionsAt only ofRegister ofCard
 writing-numbered register room place = refl
 

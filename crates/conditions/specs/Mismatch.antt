@@ -10,7 +10,7 @@ use lib.Dec.{eqb}
 use lib.ListN.{getD}
 use lib.IntN.{ℤ, pos, negsuc}
 use lib.Signed.{ltZ}
-use borrow.Author.Tests.{eqb-true, ltb-false}
+use borrow.Author.Tests.{eqb-true, eqb-false, ltb-false}
 use Rattle.search.specs.Rising.{both}
 use Rattle.search.specs.Laws.{clash, both-true}
 use Rattle.search.specs.Places.{either, among}
@@ -21,12 +21,17 @@ use Rattle.exhibits.specs.declared.Gas as gases
 use Rattle.exhibits.specs.declared.Liquid as liquids
 use Rattle.exhibits.specs.declared.Toxic.{Toxic}
 use Rattle.exhibits.specs.declared.Toxic.the-variants.{OfGas, OfLiquid, NotListed}
+use Rattle.exhibits.specs.Printed.{solution}
 use Rattle.exhibits.specs.Exhibits.{factorsOf, toxicOf}
+use Rattle.exhibits.specs.Solutions.{solutionOf}
+use Rattle.exhibits.specs.SolutionLaws.{Says, a-line, out-of-range, not-listed, says}
 use Rattle.rules.specs.Rules.{larger, closest}
 use Rattle.release.specs.declared.Containment.{Containment}
 use Rattle.release.specs.declared.Containment.the-variants.{Open, Dike, Building}
 use Rattle.release.specs.Pool.{beyondDike}
 use Rattle.scenario.specs.declared.State.{State}
+use Rattle.scenario.specs.declared.Tenths.{Tenths}
+use Rattle.scenario.specs.declared.Tenths.the-variants.{Temperature, Concentration}
 use Rattle.scenario.specs.declared.ToxicCard.{ToxicCard}
 use Rattle.scenario.specs.declared.Scenario.{Scenario}
 use Rattle.scenario.specs.declared.Planned.{Planned}
@@ -35,7 +40,7 @@ use Rattle.factors.specs.declared.Column.{Column}
 use Rattle.factors.specs.declared.Column.the-variants.{At25, At30, At35, At40, At45, At50, Above}
 use Rattle.factors.specs.declared.Factors.{Factors}
 use Rattle.factors.specs.declared.Factors.the-variants.{Read, Missing}
-use Rattle.scenario.specs.Plan.{vaporOf, poolOf, undiked, pooled, gasPlan, factored, liquidPlan, planFor, planOf}
+use Rattle.scenario.specs.Plan.{vaporOf, poolOf, undiked, pooled, gasPlan, columnIn, factored, liquidPlan, planFor, planOf}
 use Rattle.factors.specs.Factors.{ofCell, columnOf}
 use Rattle.factors.specs.Factors as tabled
 use Rattle.factors.specs.Columns.{columns, placeIn, closestFor, columns-closest, colder}
@@ -45,7 +50,7 @@ use Rattle.form.specs.declared.StateByte.the-variants as stateByte
 use Rattle.form.specs.declared.Held.the-variants as held
 use Rattle.form.specs.declared.Standing.{Standing}
 use Rattle.form.specs.Form.{stateOf, heldOf}
-use Rattle.meaning.specs.Reading.{isListed, signed}
+use Rattle.meaning.specs.Reading.{isListed, signed, tenthsOf, substanceOf, isOutOfRange}
 use Rattle.form.specs.Inverse.{Stands}
 use Rattle.conditions.specs.Conditions.{anyOf, ofGas, ofLiquid, columnRead, cellRead, withoutData, aboveFifty, heldIn, mismatched}
 use Rattle.conditions.specs.Form.{state-is, no-state}
@@ -182,57 +187,124 @@ unfit gas liquid state dike cell =
     ∷ []
     )
 
-gas-unfit : (b : ℕ) (s : State) (dike cell : Bool) (card : ToxicCard) (g : gases.Gas) → stateOf b ≡ stateByte.Is s → dike ≡ isDike (card .containment) → unfit true false b dike cell ≡ isMismatch (gasPlan s card g)
+gas-unfit : (b : ℕ) (s : State) (dike cell : Bool) (card : ToxicCard) (g : gases.Gas) → (b ≡ 5 → ⊥) → stateOf b ≡ stateByte.Is s → dike ≡ isDike (card .containment) → unfit true false b dike cell ≡ isMismatch (gasPlan s card g)
 unfolding stateOf among
-gas-unfit zero s dike cell card g e d = let z : _≡_ {A = ℕ} 0 1 = cc in clash z
-gas-unfit (suc zero) s dike cell card g e d =
+gas-unfit zero s dike cell card g n e d = let z : _≡_ {A = ℕ} 0 1 = cc in clash z
+gas-unfit (suc zero) s dike cell card g n e d =
     last-of-two dike ∙ (d ∙ (undiked-mismatch (card .containment) (vaporOf card (g .endpoint) (g .plume)) ∙ ap (λ x. isMismatch (gasPlan x card g)) (state-is e)))
-gas-unfit (suc (suc zero)) s dike cell card g e d =
+gas-unfit (suc (suc zero)) s dike cell card g n e d =
     last-of-two dike ∙ (d ∙ (undiked-mismatch (card .containment) (vaporOf card (g .endpoint) (g .plume)) ∙ ap (λ x. isMismatch (gasPlan x card g)) (state-is e)))
-gas-unfit (suc (suc (suc zero))) s dike cell card g e d =
+gas-unfit (suc (suc (suc zero))) s dike cell card g n e d =
     none-of-two dike
     ∙ (pooled-fits (beyondDike (card .quantity .0) (g .df) (card .containment)) (poolOf card (g .df) (g .lfb) 100 false (g .endpoint) (g .plume)) (vaporOf card (g .endpoint) (g .plume))
     ∙ ap (λ x. isMismatch (gasPlan x card g)) (state-is e))
-gas-unfit (suc (suc (suc (suc zero)))) s dike cell card g e d = ap (λ x. isMismatch (gasPlan x card g)) (state-is e)
-gas-unfit (suc (suc (suc (suc (suc n))))) s dike cell card g e d =
-    let none : stateOf (suc (suc (suc (suc (suc n))))) ≡ stateByte.Unlisted = no-state (suc (suc (suc (suc (suc n))))) (omega arith) in
+gas-unfit (suc (suc (suc (suc zero)))) s dike cell card g n e d = ap (λ x. isMismatch (gasPlan x card g)) (state-is e)
+gas-unfit (suc (suc (suc (suc (suc zero))))) s dike cell card g n e d = absurd (n refl)
+gas-unfit (suc (suc (suc (suc (suc (suc n)))))) s dike cell card g _ e d =
+    let none : stateOf (suc (suc (suc (suc (suc (suc n)))))) ≡ stateByte.Unlisted = no-state (suc (suc (suc (suc (suc (suc n)))))) (omega arith) in
     let z : _≡_ {A = ℕ} 0 1 = cc in
     clash z
 
-liquid-unfit : (b : ℕ) (s : State) (dike cell : Bool) (card : ToxicCard) (l : liquids.Liquid) → stateOf b ≡ stateByte.Is s → cell ≡ isMissing (tabled.factorsOf l (columnOf (card .temperature))) → unfit false true b dike cell ≡ isMismatch (liquidPlan s card l)
+liquid-unfit : (b : ℕ) (s : State) (dike cell : Bool) (card : ToxicCard) (l : liquids.Liquid) → (b ≡ 5 → ⊥) → stateOf b ≡ stateByte.Is s → cell ≡ isMissing (tabled.factorsOf l (columnIn (card .tenths))) → unfit false true b dike cell ≡ isMismatch (liquidPlan s card l)
 unfolding stateOf among
-liquid-unfit zero s dike cell card l e d = let z : _≡_ {A = ℕ} 0 1 = cc in clash z
-liquid-unfit (suc zero) s dike cell card l e d = ap (λ x. isMismatch (liquidPlan x card l)) (state-is e)
-liquid-unfit (suc (suc zero)) s dike cell card l e d = ap (λ x. isMismatch (liquidPlan x card l)) (state-is e)
-liquid-unfit (suc (suc (suc zero))) s dike cell card l e d = ap (λ x. isMismatch (liquidPlan x card l)) (state-is e)
-liquid-unfit (suc (suc (suc (suc zero)))) s dike cell card l e d =
+liquid-unfit zero s dike cell card l n e d = let z : _≡_ {A = ℕ} 0 1 = cc in clash z
+liquid-unfit (suc zero) s dike cell card l n e d = ap (λ x. isMismatch (liquidPlan x card l)) (state-is e)
+liquid-unfit (suc (suc zero)) s dike cell card l n e d = ap (λ x. isMismatch (liquidPlan x card l)) (state-is e)
+liquid-unfit (suc (suc (suc zero))) s dike cell card l n e d = ap (λ x. isMismatch (liquidPlan x card l)) (state-is e)
+liquid-unfit (suc (suc (suc (suc zero)))) s dike cell card l n e d =
     last-of-three dike cell
-    ∙ (d ∙ (factored-missing (tabled.factorsOf l (columnOf (card .temperature))) card l ∙ ap (λ x. isMismatch (liquidPlan x card l)) (state-is e)))
-liquid-unfit (suc (suc (suc (suc (suc n))))) s dike cell card l e d =
-    let none : stateOf (suc (suc (suc (suc (suc n))))) ≡ stateByte.Unlisted = no-state (suc (suc (suc (suc (suc n))))) (omega arith) in
+    ∙ (d ∙ (factored-missing (tabled.factorsOf l (columnIn (card .tenths))) card l ∙ ap (λ x. isMismatch (liquidPlan x card l)) (state-is e)))
+liquid-unfit (suc (suc (suc (suc (suc zero))))) s dike cell card l n e d = absurd (n refl)
+liquid-unfit (suc (suc (suc (suc (suc (suc n)))))) s dike cell card l _ e d =
+    let none : stateOf (suc (suc (suc (suc (suc (suc n)))))) ≡ stateByte.Unlisted = no-state (suc (suc (suc (suc (suc (suc n)))))) (omega arith) in
     let z : _≡_ {A = ℕ} 0 1 = cc in
     clash z
+
+-- a state that 10 does not speak of
+none-of-four : (g l d x : Bool) → either (both g false) (either (both l false) (either (both d false) (either (both false x) false))) ≡ false
+none-of-four true true true x = refl
+none-of-four true true false x = refl
+none-of-four true false true x = refl
+none-of-four true false false x = refl
+none-of-four false true true x = refl
+none-of-four false true false x = refl
+none-of-four false false true x = refl
+none-of-four false false false x = refl
+
+-- 10 of a card, by its byte 1
+abbrev unfitIn : List ℕ → ℕ → Bool
+unfitIn card state =
+    unfit (ofGas card) (ofLiquid card) state (eqb (byteAt card 3) 1) (both (not (aboveFifty card)) (withoutData (cellRead card)))
+
+-- "10 refuses no gas, liquid or dike in state 5"; nor a flammable card, whose byte 1 is zero
+pub mismatch-none : (card : List ℕ) (state : ℕ) → byteAt card 1 ≡ state → among state (1 ∷ 2 ∷ 3 ∷ 4 ∷ []) ≡ false → mismatched card ≡ false
+unfolding mismatched among
+mismatch-none card state e out =
+    ap (unfitIn card) e ∙ go (eqb state 1) (eqb state 2) (eqb state 3) (eqb state 4) out
+  where
+    go : (p q r s : Bool) → either p (either q (either r (either s false))) ≡ false
+        → anyOf (
+        both (ofGas card) s
+        ∷ both (ofLiquid card) (either p (either q (either r false)))
+        ∷ both (eqb (byteAt card 3) 1) (either p (either q false))
+        ∷ both s (both (not (aboveFifty card)) (withoutData (cellRead card)))
+        ∷ []
+        ) ≡ false
+    go false false false false h =
+        none-of-four (ofGas card) (ofLiquid card) (eqb (byteAt card 3) 1) (both (not (aboveFifty card)) (withoutData (cellRead card)))
+    go true q r s h = clash (cc)
+    go false true r s h = clash (cc)
+    go false false true s h = clash (cc)
+    go false false false true h = clash (cc)
 
 -- 10 holds exactly where no scenario fits a listed toxic card
 module _ (card : List ℕ) (standing : Standing) (from : Stands (fieldsOf card) standing) where
-  abbrev made : ToxicCard
-  made = cardFrom (fieldsOf card) standing
-
   dike-is : eqb (byteAt card 3) 1 ≡ isDike (standing .containment)
   unfolding fieldsOf
   dike-is = dike-byte (byteAt card 3) (fourAt card 12) (twoAt card 16) (standing .containment) (from .held)
 
-  substance : (x : Toxic) → Seen (fieldsOf card .cas) x → isListed x ≡ true → mismatched card ≡ isMismatch (planFor x made)
+  -- a card in states 1 to 4, of what B-1 and B-2 say
+  substance : (made : ToxicCard) → made .containment ≡ standing .containment → made .tenths ≡ Temperature (signed (fieldsOf card .heat)) → made .state ≡ standing .state
+      → (byteAt card 1 ≡ 5 → ⊥) → (x : Toxic) → Seen (fieldsOf card .cas) x → isListed x ≡ true → mismatched card ≡ isMismatch (planFor x made)
   unfolding mismatched ofGas ofLiquid fieldsOf
-  substance (OfGas g) (a-gas _ p q) h =
+  substance made c t s n (OfGas g) (a-gas _ p q) h =
       ap₂ (λ a b. unfit a b (byteAt card 1) (eqb (byteAt card 3) 1) (both (not (aboveFifty card)) (withoutData (cellRead card)))) p q
-      ∙ gas-unfit (byteAt card 1) (standing .state) (eqb (byteAt card 3) 1) (both (not (aboveFifty card)) (withoutData (cellRead card))) made g (from .state) dike-is
-  substance (OfLiquid l) (a-liquid _ p q c) h =
+      ∙ (gas-unfit (byteAt card 1) (standing .state) (eqb (byteAt card 3) 1) (both (not (aboveFifty card)) (withoutData (cellRead card))) made g n (from .state) (dike-is ∙ ap isDike (sym c))
+      ∙ ap (λ k. isMismatch (gasPlan k made g)) (sym s))
+  substance made c t s n (OfLiquid l) (a-liquid _ p q k) h =
       ap₂ (λ a b. unfit a b (byteAt card 1) (eqb (byteAt card 3) 1) (both (not (aboveFifty card)) (withoutData (cellRead card)))) p q
-      ∙ liquid-unfit (byteAt card 1) (standing .state) (eqb (byteAt card 3) 1) (both (not (aboveFifty card)) (withoutData (cellRead card))) made l (from .state)
-      (ap (λ (x : Corrections). both (not (aboveFifty card)) (withoutData (getD (cellsIn x) (columnRead (signed (fieldsOf card .heat))) NoData))) (sym c) ∙ sym (factors-missing l (signed (fieldsOf card .heat))))
-  substance NotListed (neither p q) h = let z : _≡_ {A = ℕ} 0 1 = cc in clash z
+      ∙ (liquid-unfit (byteAt card 1) (standing .state) (eqb (byteAt card 3) 1) (both (not (aboveFifty card)) (withoutData (cellRead card))) made l n (from .state)
+      (ap (λ (x : Corrections). both (not (aboveFifty card)) (withoutData (getD (cellsIn x) (columnRead (signed (fieldsOf card .heat))) NoData))) (sym k)
+      ∙ (sym (factors-missing l (signed (fieldsOf card .heat))) ∙ ap (λ y. isMissing (tabled.factorsOf l (columnIn y))) (sym t)))
+      ∙ ap (λ y. isMismatch (liquidPlan y made l)) (sym s))
+  substance made c t s n NotListed (neither p q) h = clash (cc)
 
-  pub mismatch-is : isListed (toxicOf (fieldsOf card .cas)) ≡ true → mismatched card ≡ isMismatch (planOf made)
-  unfolding planOf
-  mismatch-is h = substance (toxicOf (fieldsOf card .cas)) (seen (fieldsOf card .cas)) h
+  -- a solution, of what B-3 says
+  solved : (made : ToxicCard) → byteAt card 1 ≡ 5 → (x : Toxic) → Says (fieldsOf card .cas) (fieldsOf card .heat) x → isListed x ≡ true → isOutOfRange x ≡ false → mismatched card ≡ isMismatch (planFor x made)
+  unfolding among
+  solved made e _ (a-line (solution c t n a d p) _ _ _) h r = mismatch-none card 5 e refl
+  solved made e _ (out-of-range _ _) h r = clash (cc)
+  solved made e _ (not-listed _) h r = clash (cc)
+
+  -- the card by whether it is a solution
+  abbrev made : Bool → ToxicCard
+  made b =
+      record {
+        cas = fieldsOf card .cas;
+        entry = elim b as (λ _. Toxic) [ true ↦ solutionOf (fieldsOf card .cas) (fieldsOf card .heat) | false ↦ toxicOf (fieldsOf card .cas) ];
+        state = standing .state;
+        ground = standing .ground;
+        quantity = record { 0 = fieldsOf card .pounds };
+        tenths = elim b as (λ _. Tenths) [ true ↦ Concentration (fieldsOf card .heat) | false ↦ Temperature (signed (fieldsOf card .heat)) ];
+        containment = standing .containment;
+      }
+
+  pub mismatch-is : isListed (substanceOf (fieldsOf card)) ≡ true → isOutOfRange (substanceOf (fieldsOf card)) ≡ false → mismatched card ≡ isMismatch (planOf (cardFrom (fieldsOf card) standing))
+  unfolding planOf substanceOf tenthsOf fieldsOf
+  mismatch-is h r = go (eqb (byteAt card 1) 5) refl h r
+    where
+      go : (b : Bool) → eqb (byteAt card 1) 5 ≡ b → isListed (made b .entry) ≡ true → isOutOfRange (made b .entry) ≡ false → mismatched card ≡ isMismatch (planFor (made b .entry) (made b))
+      go true e h r =
+          solved (made true) (eqb-true (byteAt card 1) 5 e) (solutionOf (fieldsOf card .cas) (fieldsOf card .heat)) (says (fieldsOf card .cas) (fieldsOf card .heat)) h r
+      go false e h r =
+          substance (made false) refl refl refl (eqb-false (byteAt card 1) 5 e) (toxicOf (fieldsOf card .cas)) (seen (fieldsOf card .cas)) h

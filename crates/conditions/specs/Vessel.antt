@@ -11,8 +11,7 @@ use Rattle.dispersion.specs.declared.Ground.the-variants.{Rural, Urban}
 use Rattle.release.specs.declared.Containment.{Containment}
 use Rattle.release.specs.declared.Containment.the-variants.{Open, Dike, Building}
 use Rattle.scenario.specs.declared.State.{State}
-use Rattle.scenario.specs.declared.State.the-variants.{Gas, Pressurized, Refrigerated, Liquid}
-use Rattle.exhibits.specs.Exhibits.{toxicOf}
+use Rattle.scenario.specs.declared.State.the-variants.{Gas, Pressurized, Refrigerated, Liquid, Solution}
 use Rattle.scenario.specs.declared.ToxicCard.{ToxicCard}
 use Rattle.buffer.specs.Numbers.{byteAt}
 use Rattle.fields.specs.declared.Fields.{Fields}
@@ -26,7 +25,7 @@ use Rattle.form.specs.declared.Held.the-variants as held
 use Rattle.form.specs.declared.Standing.{Standing}
 use Rattle.form.specs.Form.{stateOf, groundOf, openOf, heldOf}
 use Rattle.form.specs.Inverse.{Stands}
-use Rattle.meaning.specs.Reading.{signed}
+use Rattle.meaning.specs.Reading.{tenthsOf, substanceOf}
 use Rattle.conditions.specs.Conditions.{stateIn, groundIn, heldIn, toxicCard}
 use Rattle.conditions.specs.Form.{state-is}
 
@@ -35,11 +34,11 @@ abbrev pub cardFrom : Fields → Standing → ToxicCard
 cardFrom f standing =
     record {
       cas = f .cas;
-      entry = toxicOf (f .cas);
+      entry = substanceOf f;
       state = standing .state;
       ground = standing .ground;
       quantity = record { 0 = f .pounds };
-      temperature = signed (f .heat);
+      tenths = tenthsOf f;
       containment = standing .containment;
     }
 
@@ -48,14 +47,15 @@ held-is e = cc
 
 state-in : (b : ℕ) (s : State) → stateOf b ≡ stateByte.Is s → stateIn b ≡ s
 unfolding stateOf stateIn
-state-in b s e = go (eqb b 1) (eqb b 2) (eqb b 3) (eqb b 4) e
+state-in b s e = go (eqb b 1) (eqb b 2) (eqb b 3) (eqb b 4) (eqb b 5) e
   where
-    go : (p q r t : Bool) → (elim p as (λ _. StateByte) [ true ↦ stateByte.Is Gas | false ↦ elim q as (λ _. StateByte) [ true ↦ stateByte.Is Pressurized | false ↦ elim r as (λ _. StateByte) [ true ↦ stateByte.Is Refrigerated | false ↦ elim t as (λ _. StateByte) [ true ↦ stateByte.Is Liquid | false ↦ stateByte.Unlisted ] ] ] ]) ≡ stateByte.Is s → (elim p as (λ _. State) [ true ↦ Gas | false ↦ elim q as (λ _. State) [ true ↦ Pressurized | false ↦ elim r as (λ _. State) [ true ↦ Refrigerated | false ↦ Liquid ] ] ]) ≡ s
-    go true q r t x = state-is x
-    go false true r t x = state-is x
-    go false false true t x = state-is x
-    go false false false true x = state-is x
-    go false false false false x = let z : _≡_ {A = ℕ} 0 1 = cc in clash z
+    go : (p q r t u : Bool) → (elim p as (λ _. StateByte) [ true ↦ stateByte.Is Gas | false ↦ elim q as (λ _. StateByte) [ true ↦ stateByte.Is Pressurized | false ↦ elim r as (λ _. StateByte) [ true ↦ stateByte.Is Refrigerated | false ↦ elim t as (λ _. StateByte) [ true ↦ stateByte.Is Liquid | false ↦ elim u as (λ _. StateByte) [ true ↦ stateByte.Is Solution | false ↦ stateByte.Unlisted ] ] ] ] ]) ≡ stateByte.Is s → (elim p as (λ _. State) [ true ↦ Gas | false ↦ elim q as (λ _. State) [ true ↦ Pressurized | false ↦ elim r as (λ _. State) [ true ↦ Refrigerated | false ↦ elim t as (λ _. State) [ true ↦ Liquid | false ↦ Solution ] ] ] ]) ≡ s
+    go true q r t u x = state-is x
+    go false true r t u x = state-is x
+    go false false true t u x = state-is x
+    go false false false true u x = state-is x
+    go false false false false true x = state-is x
+    go false false false false false x = let z : _≡_ {A = ℕ} 0 1 = cc in clash z
 
 ground-is : {a b : Ground} → groundByte.Is a ≡ groundByte.Is b → a ≡ b
 ground-is e = cc

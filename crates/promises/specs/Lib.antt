@@ -1,3 +1,4 @@
 pub mod Buffer
 pub mod Starred
+pub mod Solutions
 pub mod SentBack

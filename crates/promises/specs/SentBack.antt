@@ -10,8 +10,9 @@ use Rattle.refusals.specs.Numbers.{numberOf}
 use Rattle.walk.specs.declared.Outcome.{Outcome}
 use Rattle.walk.specs.declared.Outcome.the-variants as outcome
 use Rattle.register.specs.Register.{outcomeOf}
-use Rattle.conditions.specs.Conditions.{Condition, condition, unlisted, filled, badToxic, badFlammable, badForm, ofGas, ofLiquid, ofTable13, badCas, mismatched, aboveLast, lastInUse, beyondTable, stateIn, groundIn, heldIn, beyond, ofRegister, ofCard, only, conditionsAt}
+use Rattle.conditions.specs.Conditions.{Condition, condition, unlisted, filled, badToxic, badFlammable, badForm, ofGas, ofLiquid, ofTable13, ofSolution, badCas, mismatched, aboveLast, lastInUse, beyondTable, stateIn, groundIn, heldIn, beyond, ofRegister, ofCard, only, conditionsAt}
 use Rattle.promises.specs.Starred.{cardOf, registerOf, chlorine, ammonia, bromine, propane, rural, urban, in-open, in-dike, computed}
+use Rattle.promises.specs.Solutions.{hydrochloric}
 
 -- a register, the length of the answer buffer, and the number and place that it is sent back with
 pub record Example : Type 0 where
@@ -67,6 +68,18 @@ examples =
     ∷ card 8 (cardOf 1 4 urban in-dike 7726956 0 100 10_001 250 1)
     ∷ card 14 (cardOf 1 2 rural in-dike 7782505 2_500 100 10_001 0 1)
     ∷ card 15 (cardOf 1 4 rural in-open 7782505 2_500 0 0 3_001 1)
+    -- 16: "concentration zero or above the highest printed": 0.0 % and 38.1 % hydrochloric acid; 6,553.5 %, which is no temperature
+    ∷ card 16 (hydrochloric rural in-open 10_000 0 0 0 1)
+    ∷ card 16 (hydrochloric rural in-open 10_000 0 0 381 1)
+    ∷ card 16 (hydrochloric rural in-open 10_000 0 0 65_535 1)
+    -- "at temperature's place in the order": behind 8 and 14
+    ∷ card 8 (hydrochloric rural in-open 0 0 0 0 1)
+    ∷ card 14 (hydrochloric rural in-dike 10_000 100 10_001 0 1)
+    -- "in state 5 number 7 looks in B-3": not for bromine; and B-1 and B-2 have no oleum
+    ∷ card 7 (cardOf 1 5 rural in-open 7726956 10_000 0 0 100 1)
+    ∷ card 7 (cardOf 1 4 rural in-open 8014957 10_000 0 0 250 1)
+    -- state 6 is none
+    ∷ card 6 (cardOf 1 6 rural in-open 7647010 10_000 0 0 370 1)
     ∷ []
 
 -- the number and the place of a call that is sent back
@@ -101,5 +114,5 @@ stated e = e .number ∷ e .place ∷ e .number ∷ []
 
 -- Every example of the table.
 pub sent-back : map defined examples ≡ map stated examples
-unfolding examples computed holding conditionsAt only ofRegister ofCard badForm badToxic badFlammable unlisted filled badCas ofGas ofLiquid ofTable13 mismatched beyond stateIn groundIn heldIn beyondTable aboveLast lastInUse
+unfolding examples computed holding conditionsAt only ofRegister ofCard badForm badToxic badFlammable unlisted filled badCas ofGas ofLiquid ofTable13 ofSolution mismatched beyond stateIn groundIn heldIn beyondTable aboveLast lastInUse
 sent-back = refl
