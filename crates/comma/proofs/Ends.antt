@@ -3,7 +3,7 @@
 use Prim.Native.Nat.{ℕ, _+_, _-_, _^_, _≤_, _<_}
 use native.Mathlib.Omega.{arith}
 use native.Mathlib.Nat.{lt-of-le-of-lt}
-use mathlib.Core.Path.{_≡_, sym, ap, subst, _∙_}
+use mathlib.Core.Path.{_≡_, refl, sym, ap, subst, _∙_}
 use mathlib.Core.List.{List}
 use mathlib.Core.Logic.{⊎-elim}
 use lib.Dec.{T, ltb, ltb→lt}
@@ -30,9 +30,10 @@ use Rattle.comma.specs.declared.AmountsRead.{AmountsRead}
 use Rattle.comma.specs.declared.AmountsRead.the-variants as amountsRead
 use Rattle.comma.specs.declared.Line.{Line}
 use Rattle.comma.specs.declared.Line.the-variants as line
-use Rattle.comma.specs.Line.{fieldsIn, lastsIn, amountsIn, codesIn, longestLine, lineOf}
+use Rattle.comma.specs.Line.{fieldsIn, tenthsForm, lastsIn, amountsIn, codesIn, longestLine, lineOf}
 use Rattle.comma.specs.Stages.{placed, endAt, takenAt, CodesTold, AmountsTold}
 use Rattle.comma.specs.StageLaws.{taken-ended, taken-unended, taken-is, taken-not, remark-is, remark-not}
+use Rattle.comma.specs.StrictLaws.{tenths-cases, tenths-most}
 
 -- ---- one field
 
@@ -137,6 +138,18 @@ module _ (text : List ℕ) (at : ℕ) (x : Taken) (e : x ≡ takenAt Cas text at
           taken-is text at Cas (sym e ∙ p) _ ∙ taken-is text at₁ (Decimal 4_294_967_295) (sym f ∙ q) _
           ∙ taken-is text at₂ (Decimal 4_294_967_295) (sym g ∙ r) _
 
+-- ---- the form of the ninth field
+
+pub concentration : (state : ℕ) → state ≡ 5 → Decimal 65_535 ≡ tenthsForm state
+concentration state e = tenths-cases (λ form text. Decimal 65_535 ≡ form) state 0 (λ h. refl) (λ n. absurd (n e))
+
+pub temperature : (state : ℕ) → (state ≡ 5 → ⊥) → Temperature ≡ tenthsForm state
+temperature state n = tenths-cases (λ form text. Temperature ≡ form) state 0 (λ e. absurd (n e)) (λ h. refl)
+
+-- in every state two bytes hold it
+pub tenths-small : (state : ℕ) (tenths : Form) → tenths ≡ tenthsForm state → T (ltb (mostOf tenths) (2 ^ 16))
+tenths-small state tenths t = rw (t, tenths-most state) tt
+
 -- ---- the rest, and the remark
 
 module _ (text : List ℕ) (at : ℕ) (codes : Codes) (amounts : Amounts) (x : Taken) (e : x ≡ takenAt (Decimal 65_535) text at) where
@@ -144,23 +157,27 @@ module _ (text : List ℕ) (at : ℕ) (codes : Codes) (amounts : Amounts) (x : T
   unfolding lastsIn
   wall-bad p = sym (taken-not text at (Decimal 65_535) (sym e ∙ p) _)
 
-  module _ (wall at₁ : ℕ) (p : x ≡ taken.Is wall at₁) (y : Taken) (f : y ≡ takenAt Temperature text at₁) where
+  module _ (wall at₁ : ℕ) (p : x ≡ taken.Is wall at₁) (tenths : Form) (t : tenths ≡ tenthsForm (codes .state)) (y : Taken) (f : y ≡ takenAt tenths text at₁) where
+    -- the ninth field, by its state
+    ninth : y ≡ takenAt (tenthsForm (codes .state)) text at₁
+    ninth = f ∙ ap (λ (form : Form). takenAt form text at₁) t
+
     pub heat-bad : y ≡ taken.Malformed → line.Malformed ≡ lastsIn codes amounts (fieldsIn (drop at text))
     unfolding lastsIn
-    heat-bad q = sym (taken-is text at (Decimal 65_535) (sym e ∙ p) _ ∙ taken-not text at₁ Temperature (sym f ∙ q) _)
+    heat-bad q = sym (taken-is text at (Decimal 65_535) (sym e ∙ p) _ ∙ taken-not text at₁ (tenthsForm (codes .state)) (sym ninth ∙ q) _)
 
     module _ (heat at₂ : ℕ) (q : y ≡ taken.Is heat at₂) (z : Taken) (g : z ≡ takenAt (Decimal 4_294_967_295) text at₂) where
       pub number-bad : z ≡ taken.Malformed → line.Malformed ≡ lastsIn codes amounts (fieldsIn (drop at text))
       unfolding lastsIn
       number-bad r =
-          sym (taken-is text at (Decimal 65_535) (sym e ∙ p) _ ∙ taken-is text at₁ Temperature (sym f ∙ q) _
+          sym (taken-is text at (Decimal 65_535) (sym e ∙ p) _ ∙ taken-is text at₁ (tenthsForm (codes .state)) (sym ninth ∙ q) _
           ∙ taken-not text at₂ (Decimal 4_294_967_295) (sym g ∙ r) _)
 
       module _ (number at₃ end : ℕ) (r : z ≡ taken.Is number at₃) (h : end ≡ at₃ + length (before 44 (drop at₃ text))) where
         pub too-many : end < length text → line.Malformed ≡ lastsIn codes amounts (fieldsIn (drop at text))
         unfolding lastsIn
         too-many k =
-            sym (taken-is text at (Decimal 65_535) (sym e ∙ p) _ ∙ taken-is text at₁ Temperature (sym f ∙ q) _
+            sym (taken-is text at (Decimal 65_535) (sym e ∙ p) _ ∙ taken-is text at₁ (tenthsForm (codes .state)) (sym ninth ∙ q) _
             ∙ taken-is text at₂ (Decimal 4_294_967_295) (sym g ∙ r) _ ∙ remark-not text at₃ _ (omega (arith, h)))
 
         pub eleven : length text ≤ end
@@ -168,7 +185,7 @@ module _ (text : List ℕ) (at : ℕ) (codes : Codes) (amounts : Amounts) (x : T
             ≡ lastsIn codes amounts (fieldsIn (drop at text))
         unfolding lastsIn
         eleven k =
-            sym (taken-is text at (Decimal 65_535) (sym e ∙ p) _ ∙ taken-is text at₁ Temperature (sym f ∙ q) _
+            sym (taken-is text at (Decimal 65_535) (sym e ∙ p) _ ∙ taken-is text at₁ (tenthsForm (codes .state)) (sym ninth ∙ q) _
             ∙ taken-is text at₂ (Decimal 4_294_967_295) (sym g ∙ r) _ ∙ remark-is text at₃ _ (omega (arith, h)))
 
 -- ---- the whole line

@@ -6,8 +6,8 @@ use Prim.Native.String.{String}
 use mathlib.Core.Path.{_≡_, refl}
 use mathlib.Core.List.{List, [], _∷_, _++_, map}
 use lib.ListN.{replicate}
-use Rattle.pieces.specs.Pieces.{pieces}
-use Rattle.decimal.specs.Decimal.{readFrom}
+use Rattle.pieces.specs.Pieces.{pieces, closed}
+use Rattle.decimal.specs.Decimal.{digits, padded, readFrom}
 use Rattle.numerals.specs.Numerals.{skip, chop, bare, readOn, numberIn, hyphened, unhyphened, casIn, heatIn, valueIn}
 use Rattle.fields.specs.declared.Fields.{Fields}
 use Rattle.refusals.specs.declared.Refusal.the-variants as refusal
@@ -15,15 +15,16 @@ use Rattle.comma.specs.declared.Line.{Line}
 use Rattle.comma.specs.declared.Line.the-variants as line
 use Rattle.comma.specs.declared.Converted.{Converted}
 use Rattle.comma.specs.declared.Converted.the-variants as converted
-use Rattle.comma.specs.Line.{fieldsIn, lastsIn, amountsIn, codesIn, lineOf}
+use Rattle.comma.specs.Line.{fieldsIn, tenthsForm, lastsIn, amountsIn, codesIn, lineOf}
 use Rattle.comma.specs.Text.{linesOf, Cards, cards, bad, cardsFrom, cardsIn, badRoom, readingOf}
+use Rattle.comma.specs.Strict.{casText, heatText, tenthsText, fieldTexts, strictLine}
 
 -- the bytes of a text in ASCII
 unfoldable pub ascii : String → List ℕ
 ascii String.[] = []
 ascii (String._∷_ c rest) = code c ∷ ascii rest
 
--- kind, state, ground, containment, CAS number, pounds, area, wall, temperature (unsigned), card number
+-- kind, state, ground, containment, CAS number, pounds, area, wall, temperature (unsigned) or concentration, card number
 abbrev pub card : ℕ → ℕ → ℕ → ℕ → ℕ → ℕ → ℕ → ℕ → ℕ → ℕ → Fields
 card kind state ground containment cas pounds area wall heat number =
     record {
@@ -49,6 +50,9 @@ reads text f = record { bytes = ascii text; is = line.Card f }
 
 abbrev malformed : String → Example Line
 malformed text = record { bytes = ascii text; is = line.Malformed }
+
+abbrev writes : String → Fields → Example Fields
+writes text f = record { bytes = ascii text; is = f }
 
 -- ---- lines
 
@@ -99,6 +103,28 @@ lines =
     ∷ malformed "1,4,2,0,7726-95-6,2500,0,0,-,12,"
     ∷ malformed "1,4,2,0,7726-95-6,2500,0,0,- 5,12,"
     ∷ malformed "1,4,2,0,7726-95-6,-2500,0,0,0,12,"
+    -- "Its concentration, unsigned tenths of a percent by weight, takes the temperature's place (in a comma line too)"
+    ∷ reads "1,5,2,0,7647-01-0,15000,0,0,370,13," (card 1 5 2 0 7_647_010 15_000 0 0 370 13)
+    ∷ reads "1,005,2,0,7647-01-0,15000,0,0, 0065535 ,13," (card 1 5 2 0 7_647_010 15_000 0 0 65_535 13)
+    ∷ malformed "1,5,2,0,7647-01-0,15000,0,0,65536,13,"
+    ∷ malformed "1,5,2,0,7647-01-0,15000,0,0,-1,13,"
+    ∷ malformed "1,5,2,0,7647-01-0,15000,0,0,-0,13,"
+    -- by the number of the state: the same field in state 4, 6 and 5
+    ∷ malformed "1,4,2,0,7647-01-0,15000,0,0,40000,13,"
+    ∷ malformed "1,6,2,0,7647-01-0,15000,0,0,40000,13,"
+    ∷ reads "1,5,2,0,7647-01-0,15000,0,0,40000,13," (card 1 5 2 0 7_647_010 15_000 0 0 40_000 13)
+    -- whatever the kind
+    ∷ reads "2,5,0,0,74-98-6,10000,0,0,40000,14," (card 2 5 0 0 74_986 10_000 0 0 40_000 14)
+    ∷ malformed "2,5,0,0,74-98-6,10000,0,0,-1,14,"
+    ∷ []
+
+-- "one strict way of writing lines": cards and their lines; the two bytes of a concentration are written as they are
+pub written : List (Example Fields)
+written =
+    writes "1,4,2,0,7726-95-6,2500,0,0,-1,12," (card 1 4 2 0 7_726_956 2_500 0 0 65_535 12)
+    ∷ writes "1,5,2,0,7647-01-0,15000,0,0,65535,13," (card 1 5 2 0 7_647_010 15_000 0 0 65_535 13)
+    ∷ writes "1,5,2,0,7647-01-0,15000,0,0,370,13," (card 1 5 2 0 7_647_010 15_000 0 0 370 13)
+    ∷ writes "2,5,0,0,74-98-6,10000,0,0,65535,14," (card 2 5 0 0 74_986 10_000 0 0 65_535 14)
     ∷ []
 
 -- "A line is at most 200 bytes": 32 and a remark of 168, and of 169
@@ -150,9 +176,12 @@ calls =
     ∷ record { text = "2,0,0,0,74-98-6,10000,0,0,0,1,\nno card\n"; room = 0; answer = converted.Refused refusal.Line 2 }
     ∷ []
 
--- every line, text and call of a table comes to what stands beside it
+-- every line, card, text and call of a table comes to what stands beside it
 abbrev pub LinesAs : List (Example Line) → Type 0
 LinesAs table = map (λ (x : Example Line). lineOf (x .bytes)) table ≡ map (λ (x : Example Line). x .is) table
+
+abbrev pub WrittenAs : List (Example Fields) → Type 0
+WrittenAs table = map (λ (x : Example Fields). strictLine (x .is)) table ≡ map (λ (x : Example Fields). x .bytes) table
 
 abbrev pub TextsAs : List (Example Cards) → Type 0
 TextsAs table = map (λ (x : Example Cards). cardsIn (x .bytes)) table ≡ map (λ (x : Example Cards). x .is) table
@@ -160,6 +189,6 @@ TextsAs table = map (λ (x : Example Cards). cardsIn (x .bytes)) table ≡ map (
 abbrev pub CallsAs : List Call → Type 0
 CallsAs table = map (λ (x : Call). readingOf (ascii (x .text)) (x .room)) table ≡ map (λ (x : Call). x .answer) table
 
-pub examples : LinesAs lines × LinesAs longest × TextsAs texts × CallsAs calls
-unfolding ascii chlorine flammable lines longest texts calls pieces readFrom skip chop bare readOn numberIn hyphened unhyphened casIn heatIn valueIn fieldsIn lastsIn amountsIn codesIn lineOf linesOf cardsFrom cardsIn badRoom readingOf
-examples = (refl, refl, refl, refl)
+pub examples : LinesAs lines × LinesAs longest × WrittenAs written × TextsAs texts × CallsAs calls
+unfolding ascii chlorine flammable lines longest written texts calls pieces closed digits padded readFrom skip chop bare readOn numberIn hyphened unhyphened casIn heatIn valueIn fieldsIn tenthsForm lastsIn amountsIn codesIn lineOf linesOf cardsFrom cardsIn badRoom readingOf casText heatText tenthsText fieldTexts strictLine
+examples = (refl, refl, refl, refl, refl)

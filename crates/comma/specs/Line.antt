@@ -4,7 +4,7 @@
 use Prim.Native.Nat.{ℕ}
 use mathlib.Core.List.{List, [], _∷_}
 use mathlib.Core.Bool.{true, false}
-use lib.Dec.{ltb}
+use lib.Dec.{ltb, eqb}
 use lib.ListN.{length}
 use Rattle.pieces.specs.Pieces.{pieces}
 use Rattle.fields.specs.declared.Fields.{Fields}
@@ -49,11 +49,17 @@ ofTwoBytes = Decimal 65_535
 abbrev pub ofFourBytes : Form
 ofFourBytes = Decimal 4_294_967_295
 
--- "wall, temperature in tenths, card number, and a remark"
+-- "Its concentration, unsigned tenths of a percent by weight, takes the temperature's place (in a comma line too)": what the
+-- ninth field holds goes by the number in the second alone, 5 for a water solution, whatever the kind. A concentration has no
+-- minus.
+unfoldable pub tenthsForm : ℕ → Form
+tenthsForm state = elim (eqb state 5) [ true ↦ ofTwoBytes | false ↦ Temperature ]
+
+-- "wall, temperature in tenths, card number, and a remark", with a concentration in "the temperature's place" in state 5
 unfoldable pub lastsIn : Codes → Amounts → List (List ℕ) → Line
 lastsIn codes amounts fields =
     next ofTwoBytes fields (λ wall behind-wall.
-    next Temperature behind-wall (λ heat behind-heat.
+    next (tenthsForm (codes .state)) behind-wall (λ heat behind-heat.
     next ofFourBytes behind-heat (λ number behind-number.
     remark behind-number
     (record {

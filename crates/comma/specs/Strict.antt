@@ -3,7 +3,7 @@
 use Prim.Native.Nat.{ℕ, zero, suc, _-_, _/_}
 use mathlib.Core.List.{List, [], _∷_, _++_, map}
 use mathlib.Core.Bool.{true, false}
-use lib.Dec.{ltb}
+use lib.Dec.{ltb, eqb}
 use lib.ListN.{take, drop}
 use Rattle.pieces.specs.Pieces.{closed}
 use Rattle.decimal.specs.Decimal.{digits, padded}
@@ -18,6 +18,11 @@ casText cas = digits (cas / 1_000) ++ (45 ∷ (padded 2 (cas / 10) ++ (45 ∷ pa
 unfoldable pub heatText : ℕ → List ℕ
 heatText heat = elim (ltb heat 32_768) [ true ↦ digits heat | false ↦ 45 ∷ digits (65_536 - heat) ]
 
+-- "Its concentration, unsigned tenths of a percent by weight, takes the temperature's place (in a comma line too)": in state 5
+-- the two bytes are written as they are
+unfoldable pub tenthsText : ℕ → ℕ → List ℕ
+tenthsText state heat = elim (eqb state 5) [ true ↦ digits heat | false ↦ heatText heat ]
+
 -- the ten numbers of a card
 unfoldable pub fieldTexts : Fields → List (List ℕ)
 fieldTexts f =
@@ -29,7 +34,7 @@ fieldTexts f =
     ∷ digits (f .pounds)
     ∷ digits (f .area)
     ∷ digits (f .wall)
-    ∷ heatText (f .heat)
+    ∷ tenthsText (f .state) (f .heat)
     ∷ digits (f .number)
     ∷ []
 

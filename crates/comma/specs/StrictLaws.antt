@@ -7,9 +7,9 @@ use mathlib.Core.Path.{_≡_, refl, sym, ap, subst, _∙_}
 use mathlib.Core.List.{List, [], _∷_, _++_, map, append-nil}
 use mathlib.Core.Bool.{Bool, true, false}
 use mathlib.Core.Logic.{_⊎_, inl, inr}
-use lib.Dec.{ltb}
+use lib.Dec.{ltb, eqb}
 use lib.ListN.{length, length-append}
-use borrow.Author.Tests.{lt-ltb, le-ltb}
+use borrow.Author.Tests.{lt-ltb, le-ltb, eqb-true, eqb-false}
 use Rattle.search.specs.Laws.{lt-or-ge}
 use Rattle.decimal.specs.Decimal.{digits, padded, readFrom, AllDigits}
 use Rattle.decimal.specs.Laws.{padded-all, digits-all, digits-some, digits-short, digits-read, read-append}
@@ -24,9 +24,9 @@ use Rattle.numerals.specs.Numerals.{readOn, casIn, heatIn, valueIn, mostOf, Wit
 use Rattle.numerals.specs.Laws.{within, digits-are, value-written, digits-without, decimal-written, grouped, groups, heat-plus, heat-minus}
 use Rattle.comma.specs.declared.Line.{Line}
 use Rattle.comma.specs.declared.Line.the-variants as line
-use Rattle.comma.specs.Line.{fieldsIn, and, next, remark, ofOneByte, ofTwoBytes, ofFourBytes, lastsIn, amountsIn, codesIn, longestLine, lineOf}
+use Rattle.comma.specs.Line.{fieldsIn, and, next, remark, ofOneByte, ofTwoBytes, ofFourBytes, tenthsForm, lastsIn, amountsIn, codesIn, longestLine, lineOf}
 use Rattle.comma.specs.Text.{linesOf, Cards, cards, bad, then, cardsFrom, cardsIn}
-use Rattle.comma.specs.Strict.{casText, heatText, fieldTexts, strictLine, strictLines}
+use Rattle.comma.specs.Strict.{casText, heatText, tenthsText, fieldTexts, strictLine, strictLines}
 
 -- each number of a card fits its bytes: one byte, two or four
 pub record Fitting (f : Fields) : Type 0 where
@@ -89,6 +89,23 @@ heat-cases P heat up down = go (lt-or-ge heat 32_768)
     go (inl h) = rw (lt-ltb heat 32_768 h, heatText) (up h)
     go (inr h) = rw (le-ltb heat 32_768 h, heatText) (down h)
 
+-- ---- the ninth field: a concentration in state 5, else a temperature
+
+-- what holds of the form and the text of a concentration, and of those of a temperature, holds of the field in every state
+pub tenths-cases : (P : Form → List ℕ → Type 0) (state heat : ℕ) → (state ≡ 5 → P ofTwoBytes (digits heat))
+    → ((state ≡ 5 → ⊥) → P form.Temperature (heatText heat)) → P (tenthsForm state) (tenthsText state heat)
+unfolding tenthsForm tenthsText
+tenths-cases P state heat solution other = go (eqb state 5) refl
+  where
+    go : (t : Bool) → eqb state 5 ≡ t
+        → P (elim t as (λ _. Form) [ true ↦ ofTwoBytes | false ↦ form.Temperature ]) (elim t as (λ _. List ℕ) [ true ↦ digits heat | false ↦ heatText heat ])
+    go true e = solution (eqb-true state 5 e)
+    go false e = other (eqb-false state 5 e)
+
+-- so it is never wider than its two bytes
+pub tenths-most : (state : ℕ) → mostOf (tenthsForm state) ≡ 65_535
+tenths-most state = tenths-cases (λ form text. mostOf form ≡ 65_535) state 0 (λ e. refl) (λ n. refl)
+
 -- ---- no byte of a text is below the hyphen: no comma, no space, no line feed
 
 without-append : (x : ℕ) (s t : List ℕ) → Without x s → Without x t → Without x (s ++ t)
@@ -115,10 +132,14 @@ module _ (x : ℕ) (low : x < 45) where
   heat-without heat =
       heat-cases (Without x) heat (λ h. number-without heat) (λ h. (hyphen-without, number-without (65_536 - heat)))
 
+  tenths-without : (state heat : ℕ) → Without x (tenthsText state heat)
+  tenths-without state heat =
+      tenths-cases (λ form text. Without x text) state heat (λ e. number-without heat) (λ n. heat-without heat)
+
   -- nor of any of the ten
   pub texts-without : (f : Fields) → EachWithout x (fieldTexts f)
   unfolding fieldTexts
-  texts-without f = search (number-without, cas-without, heat-without) depth 14
+  texts-without f = search (number-without, cas-without, tenths-without) depth 14
 
 -- ---- each text is read as its number
 
@@ -140,6 +161,13 @@ heat-written heat h =
     let back : 65_536 - (65_536 - heat) ≡ heat = omega arith in
     heat-minus (65_536 - heat) (omega arith) (omega arith) ∙ ap number.Is back)
 
+-- "Its concentration .. takes the temperature's place", in the form that the state gives
+pub tenths-written : (state heat : ℕ) → heat < 2 ^ 16 → valueIn (tenthsForm state) (tenthsText state heat) ≡ number.Is heat
+tenths-written state heat h =
+    tenths-cases (λ form text. valueIn form text ≡ number.Is heat) state heat
+    (λ e. decimal-written 65_535 heat (omega arith))
+    (λ n. heat-written heat h)
+
 -- ---- a strict line is short
 
 -- a CAS number with so many digits in its first group has five bytes more: three digits and two hyphens
@@ -152,6 +180,11 @@ heat-short heat h =
     heat-cases (λ text. length text ≤ 6) heat
     (λ up. omega (arith, digits-short 4 heat (omega arith)))
     (λ down. omega (arith, digits-short 4 (65_536 - heat) (omega arith)))
+
+-- and a concentration five digits
+tenths-short : (state heat : ℕ) → heat < 2 ^ 16 → length (tenthsText state heat) ≤ 6
+tenths-short state heat h =
+    tenths-cases (λ form text. length text ≤ 6) state heat (λ e. omega (arith, digits-short 4 heat (omega arith))) (λ n. heat-short heat h)
 
 -- at most 75 bytes, far from too long
 pub line-short : (f : Fields) → Fitting f → length (strictLine f) ≤ 75
@@ -168,7 +201,7 @@ line-short f fits =
       digits-short 9 (f .pounds) (omega arith),
       digits-short 9 (f .area) (omega arith),
       digits-short 4 (f .wall) (omega arith),
-      heat-short (f .heat) (fits .heat),
+      tenths-short (f .state) (f .heat) (fits .heat),
       digits-short 9 (f .number) (omega arith),
     ))
 
@@ -192,7 +225,7 @@ texts-read f fits =
       decimal-written 4_294_967_295 (f .pounds) (omega arith),
       decimal-written 4_294_967_295 (f .area) (omega arith),
       decimal-written 65_535 (f .wall) (omega arith),
-      heat-written (f .heat) (fits .heat),
+      tenths-written (f .state) (f .heat) (fits .heat),
       decimal-written 4_294_967_295 (f .number) (omega arith),
     )
 
@@ -279,9 +312,9 @@ codes-fit fields =
     next-fits ofFourBytes r₅ _ (λ pounds r₆ h₆.
     next-fits ofFourBytes r₆ _ (λ area r₇ h₇.
     next-fits ofTwoBytes r₇ _ (λ wall r₈ h₈.
-    next-fits form.Temperature r₈ _ (λ heat r₉ h₉.
+    next-fits (tenthsForm state) r₈ _ (λ heat r₉ h₉.
     next-fits ofFourBytes r₉ _ (λ number r₁₀ h₁₀.
-    remark-fits r₁₀ _ (omega arith)))))))))))
+    remark-fits r₁₀ _ (omega (arith, tenths-most state))))))))))))
 
 line-fits : (text : List ℕ) → LineFits (lineOf text)
 unfolding lineOf

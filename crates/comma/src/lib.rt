@@ -5,7 +5,7 @@ use numerals::Number;
 use refusals::Refusal;
 ghost use mathlib.Core.Path.{_≡_};
 ghost use lib.ListN.{drop};
-ghost use Rattle.comma.specs.Line.{fieldsIn, lastsIn, lineOf};
+ghost use Rattle.comma.specs.Line.{fieldsIn, tenthsForm, lastsIn, lineOf};
 ghost use Rattle.comma.specs.Stages.{takenAt, CodesTold, AmountsTold};
 
 // What a line means: the fields of a card; or nothing, since it is not eleven well-formed fields or too long.
@@ -123,7 +123,17 @@ fn amounts_at(line: &[u8], at: usize) -> AmountsRead
     AmountsRead::Are(Amounts { cas, pounds, area }, at3)
 }
 
-// Wall, temperature and card number, and the remark, which is the last field and is dropped.
+// What the ninth field is to hold: in state 5, a water solution's, a concentration without a sign, else a temperature.
+fn tenths_form(state: u8) -> Form
+    ensures { λ r. ⌜ r ≡ tenthsForm state ⌝ }
+{
+    if state == 5 {
+        return Form::Decimal(TWO_BYTES);
+    }
+    Form::Temperature
+}
+
+// Wall, temperature or concentration, and card number, and the remark, which is the last field and is dropped.
 fn lasts_at(line: &[u8], at: usize, codes: Codes, amounts: Amounts) -> Line
     ensures { λ r. ⌜ r ≡ lastsIn codes amounts (fieldsIn (drop at (now (line .entry)))) ⌝ }
 {
@@ -131,7 +141,8 @@ fn lasts_at(line: &[u8], at: usize, codes: Codes, amounts: Amounts) -> Line
     let Taken::Is(wall, at1) = first else {
         return Line::Malformed;
     };
-    let second = take_field(line, at1, Form::Temperature);
+    let tenths = tenths_form(codes.state);
+    let second = take_field(line, at1, tenths);
     let Taken::Is(heat, at2) = second else {
         return Line::Malformed;
     };

@@ -1,6 +1,7 @@
 -- One law for each part of a strict line: what is written one after the other is the part.
 -- Assumes nothing.
 use Prim.Native.Nat.{ℕ, _-_, _/_, _≤_, _<_}
+use mathlib.Core.Path.{_≡_}
 use mathlib.Core.List.{List, [], _∷_, _++_, append-assoc}
 use borrow.Author.Tests.{lt-ltb, le-ltb}
 use Rattle.buffer.specs.Wrote.{Wrote}
@@ -8,8 +9,19 @@ use Rattle.buffer.specs.Laws.{joined}
 use Rattle.decimal.specs.Decimal.{digits, padded}
 use Rattle.pieces.specs.Pieces.{closed}
 use Rattle.fields.specs.declared.Fields.{Fields}
-use Rattle.comma.specs.Strict.{casText, heatText, fieldTexts, strictLine}
+use Rattle.comma.specs.Strict.{casText, heatText, tenthsText, fieldTexts, strictLine}
+use Rattle.comma.specs.StrictLaws.{tenths-cases}
 use Rattle.strict_line.specs.Parts.{casEnd, codesText, amountsText, lastsText}
+
+-- the two bytes by their state: a concentration as it is, else a temperature
+module _ {b₀ b₁ : List ℕ} {at end : ℕ} (state heat : ℕ) where
+  pub concentration : state ≡ 5 → Wrote b₀ b₁ at end (digits heat ++ (44 ∷ [])) → Wrote b₀ b₁ at end (tenthsText state heat ++ (44 ∷ []))
+  concentration e number =
+      tenths-cases (λ form text. Wrote b₀ b₁ at end (text ++ (44 ∷ []))) state heat (λ h. number) (λ n. absurd (n e))
+
+  pub temperature : (state ≡ 5 → ⊥) → Wrote b₀ b₁ at end (heatText heat ++ (44 ∷ [])) → Wrote b₀ b₁ at end (tenthsText state heat ++ (44 ∷ []))
+  temperature n signed =
+      tenths-cases (λ form text. Wrote b₀ b₁ at end (text ++ (44 ∷ []))) state heat (λ e. absurd (n e)) (λ h. signed)
 
 -- a temperature from zero up
 pub heat-up : {b₀ b₁ : List ℕ} {at end : ℕ} (heat : ℕ) → heat < 32_768 → Wrote b₀ b₁ at end (digits heat ++ (44 ∷ []))
@@ -39,7 +51,7 @@ module _ {b₀ b₁ b₂ b₃ : List ℕ} {at second third end : ℕ} (f : Field
   unfolding amountsText closed
   amounts-line cas pounds area = simp append-assoc at (joined cas (joined pounds area))
 
-  pub lasts-line : Wrote b₀ b₁ at second (digits (f .wall) ++ (44 ∷ [])) → Wrote b₁ b₂ second third (heatText (f .heat) ++ (44 ∷ []))
+  pub lasts-line : Wrote b₀ b₁ at second (digits (f .wall) ++ (44 ∷ [])) → Wrote b₁ b₂ second third (tenthsText (f .state) (f .heat) ++ (44 ∷ []))
       → Wrote b₂ b₃ third end (digits (f .number) ++ (44 ∷ 10 ∷ [])) → Wrote b₀ b₃ at end (lastsText f)
   unfolding lastsText closed
   lasts-line wall heat number = simp append-assoc (simp append-assoc at (joined wall (joined heat number)))

@@ -6,7 +6,7 @@ use mathlib.Core.List.{List, [], _∷_, _++_}
 use Rattle.decimal.specs.Decimal.{digits, padded}
 use Rattle.pieces.specs.Pieces.{closed}
 use Rattle.fields.specs.declared.Fields.{Fields}
-use Rattle.comma.specs.Strict.{casText, heatText}
+use Rattle.comma.specs.Strict.{casText, tenthsText}
 
 -- what stands behind the first hyphen of a CAS number, and the comma
 unfoldable pub casEnd : ℕ → List ℕ
@@ -20,4 +20,4 @@ amountsText f = closed 44 (casText (f .cas) ∷ digits (f .pounds) ∷ digits (f
 
 -- with the line feed at the end
 unfoldable pub lastsText : Fields → List ℕ
-lastsText f = closed 44 (digits (f .wall) ∷ heatText (f .heat) ∷ digits (f .number) ∷ []) ++ (10 ∷ [])
+lastsText f = closed 44 (digits (f .wall) ∷ tenthsText (f .state) (f .heat) ∷ digits (f .number) ∷ []) ++ (10 ∷ [])

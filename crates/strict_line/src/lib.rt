@@ -6,7 +6,7 @@ ghost use mathlib.Core.List.{[], _∷_, _++_};
 ghost use lib.ListN.{length};
 ghost use Rattle.buffer.specs.Wrote.{Wrote};
 ghost use Rattle.decimal.specs.Decimal.{digits};
-ghost use Rattle.comma.specs.Strict.{casText, heatText, strictLine};
+ghost use Rattle.comma.specs.Strict.{casText, heatText, tenthsText, strictLine};
 ghost use Rattle.strict_line.specs.Parts.{casEnd, codesText, amountsText, lastsText};
 
 // The last two groups of a CAS number and the comma behind it.
@@ -44,6 +44,18 @@ fn put_heat(out: &mut [u8], at: usize, heat: u16) -> usize
     decimal::put_number_then(out, behind, 65_536 - heat as u64, b',')
 }
 
+// The ninth number, and a comma: in state 5, a water solution's, the concentration without a sign, else the temperature.
+fn put_tenths(out: &mut [u8], at: usize, state: u8, heat: u16) -> usize
+    requires { ⌜ at + 32 ≤ length (now out) ⌝ }
+    ensures { λ r. ⌜ Wrote (now (out .entry)) (now (out .exit)) at r (tenthsText state heat ++ (44 ∷ [])) ⌝ }
+    ensures { λ r. ⌜ r ≤ at + 32 ⌝ }
+{
+    if state == 5 {
+        return decimal::put_number_then(out, at, heat as u64, b',');
+    }
+    put_heat(out, at, heat)
+}
+
 // Kind, state, ground and containment, a comma behind each.
 fn put_codes(out: &mut [u8], at: usize, fields: Fields) -> usize
     requires { ⌜ at + 96 ≤ length (now out) ⌝ }
@@ -77,14 +89,14 @@ fn put_end(out: &mut [u8], at: usize, number: u32) -> usize
     buffer::put_byte(out, feed, b'\n')
 }
 
-// Wall and temperature, a comma behind each, and the end of the line.
+// Wall and temperature or concentration, a comma behind each, and the end of the line.
 fn put_lasts(out: &mut [u8], at: usize, fields: Fields) -> usize
     requires { ⌜ at + 80 ≤ length (now out) ⌝ }
     ensures { λ r. ⌜ Wrote (now (out .entry)) (now (out .exit)) at r (lastsText fields) ⌝ }
     ensures { λ r. ⌜ r ≤ at + 80 ⌝ }
 {
     let second = decimal::put_number_then(out, at, fields.wall as u64, b',');
-    let third = put_heat(out, second, fields.heat);
+    let third = put_tenths(out, second, fields.state, fields.heat);
     put_end(out, third, fields.number)
 }
 

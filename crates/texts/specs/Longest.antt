@@ -2,7 +2,7 @@
 -- Assumes nothing.
 use Prim.Native.Nat.{ℕ, _*_, _-_, _^_, _≤_, _<_}
 use native.Mathlib.Omega.{arith}
-use mathlib.Core.Path.{refl}
+use mathlib.Core.Path.{_≡_, refl}
 use mathlib.Core.List.{List, [], _∷_}
 use mathlib.Core.Logic.{_⊎_, inl, inr}
 use lib.Dec.{ltb}
@@ -25,7 +25,7 @@ use Rattle.pieces.specs.Pieces.{closed}
 use Rattle.fields.specs.declared.Fields.{Fields}
 use Rattle.fields.specs.Layout.{fieldsOf}
 use Rattle.form.specs.Form.{stateOf, groundOf, heldOf, shapeOf}
-use Rattle.meaning.specs.Reading.{badNumber, badPounds, badArea, badWall, signed, badHeat, boundsOf, toxicMeaning, meaningOf}
+use Rattle.meaning.specs.Reading.{badNumber, badPounds, badArea, badWall, signed, badHeat, boundsOf, substanceOf, tenthsOf, toxicMeaning, meaningOf}
 use Rattle.meaning.specs.Ranges.{Ranged, ranged}
 use Rattle.card.specs.Answers.{answerOf}
 use Rattle.farthest.specs.declared.Farthest.the-variants as farthest
@@ -33,8 +33,8 @@ use Rattle.farthest.specs.Farthest.{leadersAfter, leadersFrom, leadersOf}
 use Rattle.header.specs.Header.{countOf, badLength, badVersion, badCount, badBuffer, headerOf}
 use Rattle.register.specs.Register.{cardsFrom, cardsOf, outcomeOf}
 use Rattle.comma.specs.Text.{cardBytes, bytesOf, headerBytes, registerOf}
-use Rattle.comma.specs.Strict.{casText, heatText, fieldTexts, strictLine, strictLines, fieldsFrom}
-use Rattle.comma.specs.StrictLaws.{AllFitting, cas-short, heat-cases}
+use Rattle.comma.specs.Strict.{casText, heatText, tenthsText, fieldTexts, strictLine, strictLines, fieldsFrom}
+use Rattle.comma.specs.StrictLaws.{AllFitting, cas-short, heat-cases, tenths-cases}
 use Rattle.comma.specs.CardLaws.{AllBytes, from-length}
 use Rattle.write_lines.specs.Writing.{fieldsOfRegister, strictText}
 use Rattle.texts.specs.Claim.{Accepted, Longest, Reached}
@@ -51,6 +51,13 @@ heat-length heat (inr h) =
     heat-cases (λ text. length text ≤ 4) heat (λ up. absurd (omega arith))
     (λ down. omega (arith, digits-short 2 (65_536 - heat) (omega arith)))
 
+-- so is the ninth field in every state: in state 5, where no minus is written, the two bytes are at most 3,000
+tenths-length : (state heat : ℕ) → (heat ≤ 3_000) ⊎ ((65_036 ≤ heat) × (state ≡ 5 → ⊥)) → length (tenthsText state heat) ≤ 4
+tenths-length state heat (inl h) =
+    tenths-cases (λ form text. length text ≤ 4) state heat (λ e. digits-short 3 heat (omega arith)) (λ n. heat-length heat (inl h))
+tenths-length state heat (inr h) =
+    tenths-cases (λ form text. length text ≤ 4) state heat (λ e. absurd (h .1 e)) (λ n. heat-length heat (inr (h .0)))
+
 -- the ten numbers of a card in range and their commas
 line-length : (f : Fields) → Ranged f → f .number < 2 ^ 32 → length (strictLine f) ≤ 58
 unfolding strictLine fieldTexts closed
@@ -66,7 +73,7 @@ line-length f r h =
       digits-short 7 (f .pounds) (omega arith),
       digits-short 6 (f .area) (omega arith),
       digits-short 4 (f .wall) (omega arith),
-      heat-length (f .heat) (r .heat),
+      tenths-length (f .state) (f .heat) (r .heat),
       digits-short 9 (f .number) (omega arith),
     ))
 
@@ -116,10 +123,10 @@ unfolding widest
 widest-bytes i = ltb-true _ 256 (every-at (λ b. ltb b 256) widest 0 refl refl i)
 
 widest-accepted : Accepted widest
-unfolding widest outcomeOf headerOf badLength badVersion badCount badBuffer cardsOf cardsFrom answerOf fieldsOf meaningOf badNumber shapeOf stateOf groundOf heldOf toxicMeaning toxicOf lookUp b1 b2 boundsOf badPounds badArea badWall badHeat signed planOf poolOf tableOf columnOf atMostTenMinutes dikedArea poolRate readingOf readIn tables answered apart byRow closest closestColumn closestFrom closestRow distance fromColumn inUse larger largest lastOf smaller thousandths leadersOf leadersFrom leadersAfter
+unfolding widest outcomeOf headerOf badLength badVersion badCount badBuffer cardsOf cardsFrom answerOf fieldsOf meaningOf badNumber shapeOf stateOf groundOf heldOf toxicMeaning substanceOf tenthsOf toxicOf lookUp b1 b2 boundsOf badPounds badArea badWall badHeat signed planOf poolOf tableOf columnOf atMostTenMinutes dikedArea poolRate readingOf readIn tables answered apart byRow closest closestColumn closestFrom closestRow distance fromColumn inUse larger largest lastOf smaller thousandths leadersOf leadersFrom leadersAfter
 widest-accepted =
     (replicate 16 0, record { toxic = farthest.Card 4_294_967_295 (record { 0 = 2_500 }); flammable = farthest.None }, refl)
 
 pub reached : Reached
-unfolding widest strictText fieldsOfRegister fieldsFrom fieldsOf strictLines strictLine fieldTexts closed casText heatText digits padded
+unfolding widest strictText fieldsOfRegister fieldsFrom fieldsOf strictLines strictLine fieldTexts closed casText heatText tenthsText digits padded
 reached = (widest, widest-bytes, widest-accepted, refl, refl)

@@ -1,6 +1,6 @@
 -- `comma::lasts_at` meets its contract: three fields, and one behind them without a comma.
 -- Assumes nothing.
-use Rattle.comma.proofs.Ends.{taken-fits, wall-bad, heat-bad, number-bad, too-many, eleven}
+use Rattle.comma.proofs.Ends.{taken-fits, tenths-small, wall-bad, heat-bad, number-bad, too-many, eleven}
 use borrow.Author.Needs.{needs}
 use Rattle.comma.proofs.lasts_at.Statement.{statement}
 use Rattle.comma.proofs.lasts_at.Tie as tie
@@ -16,6 +16,9 @@ enum-told c = search needs
 
 returns : tie.Need-returns
 returns c = search (wall-bad, needs)
+
+tenths-form-requires : tie.Need-tenths-form-requires
+tenths-form-requires c κs = search needs
 
 take-field-requires-2 : tie.Need-take-field-requires-2
 take-field-requires-2 c κs = search needs
@@ -47,11 +50,11 @@ end-of-requires c κs = search needs
 returns-4 : tie.Need-returns-4
 returns-4 c = search (too-many, needs)
 
-cast-t18 : tie.Need-cast-t18
-cast-t18 c = search (taken-fits, needs)
-
 cast-t19 : tie.Need-cast-t19
 cast-t19 c = search (taken-fits, needs)
+
+cast-t20 : tie.Need-cast-t20
+cast-t20 c = search (taken-fits, tenths-small, needs)
 
 returns-5 : tie.Need-returns-5
 returns-5 c = search (eleven, needs)
@@ -64,6 +67,7 @@ lasts-at-spec =
     enum-known-first
     enum-told
     returns
+    tenths-form-requires
     take-field-requires-2
     enum-known-second
     enum-told-2
@@ -74,6 +78,6 @@ lasts-at-spec =
     returns-3
     end-of-requires
     returns-4
-    cast-t18
     cast-t19
+    cast-t20
     returns-5)

@@ -11,8 +11,8 @@ cast-put-number-then c = search needs
 put-number-then-requires : tie.Need-put-number-then-requires
 put-number-then-requires c κs = search needs
 
-put-heat-requires : tie.Need-put-heat-requires
-put-heat-requires c κs = search needs
+put-tenths-requires : tie.Need-put-tenths-requires
+put-tenths-requires c κs = search needs
 
 put-end-requires : tie.Need-put-end-requires
 put-end-requires c κs = search needs
@@ -29,7 +29,7 @@ put-lasts-spec =
     (tie.spec
     cast-put-number-then
     put-number-then-requires
-    put-heat-requires
+    put-tenths-requires
     put-end-requires
     same-length
     returns)
