@@ -23,25 +23,33 @@ extern "C" {
 #define RINGS_MAX_STRICT_LEN (RINGS_MAX_CARDS * RINGS_MAX_STRICT_LINE)         /* bytes of the lines of any register */
 
 /*
+ * The state of a card, its byte 1: 1 gas, 2 gas liquefied under pressure, 3 gas liquefied by refrigeration alone,
+ * 4 liquid, 5 solution. A solution is one in water of a substance of Exhibit B-3, or oleum. Bytes 18 and 19 are in state 4
+ * the temperature, signed tenths of a degree Celsius; in state 5 the concentration, unsigned tenths of a percent by weight;
+ * in the others zero. The pounds of a solution are those of the whole, and it is at 25 degrees.
+ */
+
+/*
  * Why a register or a text is sent back. 1 to 4 and 13 mean no card, and their place is 0; the place of 12 is the
- * line's number, counted from 1. A card is checked in the order 5, 6, 7, 8, 9, 14, 15, 10, 11.
+ * line's number, counted from 1. A card is checked in the order 5, 6, 7, 8, 9, 14, 15 (or 16 in state 5), 10, 11.
  */
 enum rings_refusal {
-    RINGS_LENGTH = 1,      /* under 7 bytes, or the length field is not register_len */
-    RINGS_VERSION = 2,     /* the version is not 1 */
-    RINGS_COUNT = 3,       /* over 2,000 cards, or register_len is not 7 + 24 x cards */
-    RINGS_BUFFER = 4,      /* answers_len is under 16 x cards */
-    RINGS_NUMBER = 5,      /* a card number is zero or not above the last */
-    RINGS_FORM = 6,        /* bytes 0 to 3 are unlisted, or a must-be-zero field is filled */
-    RINGS_UNLISTED = 7,    /* the CAS number is not listed for the kind */
-    RINGS_QUANTITY = 8,    /* pounds out of range */
-    RINGS_AREA = 9,        /* area out of range */
-    RINGS_MISMATCH = 10,   /* state, substance and containment do not go together, or the exhibit has no data */
-    RINGS_BEYOND = 11,     /* beyond the table */
-    RINGS_LINE = 12,       /* a line is not eleven well-formed fields, or has over 200 bytes */
-    RINGS_ROOM = 13,       /* the buffer is too small for what has to be written, or there are over 2,000 lines */
-    RINGS_WALL = 14,       /* wall out of range */
-    RINGS_TEMPERATURE = 15 /* temperature out of range */
+    RINGS_LENGTH = 1,        /* under 7 bytes, or the length field is not register_len */
+    RINGS_VERSION = 2,       /* the version is not 1 */
+    RINGS_COUNT = 3,         /* over 2,000 cards, or register_len is not 7 + 24 x cards */
+    RINGS_BUFFER = 4,        /* answers_len is under 16 x cards */
+    RINGS_NUMBER = 5,        /* a card number is zero or not above the last */
+    RINGS_FORM = 6,          /* bytes 0 to 3 are unlisted, or a must-be-zero field is filled */
+    RINGS_UNLISTED = 7,      /* the CAS number is not listed for the kind, or in state 5 not in Exhibit B-3 */
+    RINGS_QUANTITY = 8,      /* pounds out of range */
+    RINGS_AREA = 9,          /* area out of range */
+    RINGS_MISMATCH = 10,     /* state, substance and containment do not go together, or the exhibit has no data */
+    RINGS_BEYOND = 11,       /* beyond the table */
+    RINGS_LINE = 12,         /* a line is not eleven well-formed fields, or has over 200 bytes */
+    RINGS_ROOM = 13,         /* the buffer is too small for what has to be written, or there are over 2,000 lines */
+    RINGS_WALL = 14,         /* wall out of range */
+    RINGS_TEMPERATURE = 15,  /* temperature out of range */
+    RINGS_CONCENTRATION = 16 /* concentration zero, or above the highest that is printed for the substance */
 };
 
 /*
@@ -72,7 +80,8 @@ uint64_t rings_answer(const uint8_t *register_ptr, size_t register_len,
  * text_ptr       the text's first byte; it is only read. A line is a card: kind, state, ground, containment, CAS number
  *                with hyphens, pounds, area, wall, temperature, card number and a remark that is dropped, with commas
  *                between them; then a line feed, which the last line may do without. Spaces around a field and zeros
- *                before a number are allowed. No bytes are no lines.
+ *                before a number are allowed. Where the state is 5, of whatever kind the card is, the temperature's place
+ *                has a concentration of 0 to 65,535 and no minus. No bytes are no lines.
  * text_len       its length in bytes; no length is too long or too short to be handed in.
  * register_ptr   the first byte of the buffer for the register. Bytes behind the register are left alone.
  * register_len   the buffer's length in bytes: 7 + 24 x lines, or more; RINGS_MAX_LEN is enough for any text.

@@ -24,7 +24,7 @@ refused() {
     diff target/c-error <(echo "$refusal")
 }
 
-for register in examples/document-01 examples/empty; do
+for register in examples/document-01 examples/empty examples/plating-shop; do
     target/c-example "$register.register" | diff - "$register.listing"
 done
 # a register that is sent back ends the example with status 1

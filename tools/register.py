@@ -12,9 +12,10 @@ A description has one card a line, '#' starts a comment:
     kind state ground containment cas pounds area wall temperature number
 
 Each is a number as the card holds it (area in square feet, wall in hundredths of a foot, temperature in tenths of a
-degree Celsius), with commas or none; a CAS number with hyphens or none; or a word: toxic flammable; gas pressurized
-refrigerated liquid; rural urban; open dike building; '-' for zero. Nothing is held against document 01 but the width
-of a field, so that a register can be described that has to be sent back.
+degree Celsius, or in its place a solution's concentration in tenths of a percent), with commas or none; a CAS number
+with hyphens or none; or a word: toxic flammable; gas pressurized refrigerated liquid solution; rural urban; open dike
+building; '-' for zero. Nothing is held against document 01 but the width of a field, so that a register can be
+described that has to be sent back.
 
 A file of cases has for each case:
 
@@ -29,10 +30,23 @@ import struct
 import sys
 from pathlib import Path
 
-WORDS = [{"toxic": 1, "flammable": 2}, {"gas": 1, "pressurized": 2, "refrigerated": 3, "liquid": 4},
+WORDS = [{"toxic": 1, "flammable": 2}, {"gas": 1, "pressurized": 2, "refrigerated": 3, "liquid": 4, "solution": 5},
          {"rural": 1, "urban": 2}, {"open": 0, "dike": 1, "building": 2}]
-CARD = ">BBBBIIIHhI"
+SOLUTION = WORDS[1]["solution"]
 LISTING = 65535
+
+
+def layout(state):
+    """A card's fields: the ninth is a temperature with a sign, or a solution's concentration without one."""
+    return ">BBBBIIIHHI" if state == SOLUTION else ">BBBBIIIHhI"
+
+
+def packed(values):
+    return struct.pack(layout(values[1]), *values)
+
+
+def unpacked(data):
+    return struct.unpack(layout(data[1]), data)
 
 
 def field(place, word):
@@ -50,7 +64,7 @@ def card(line):
     if len(words) != 10:
         sys.exit(f"ten fields make a card: {line}")
     try:
-        return struct.pack(CARD, *[field(i, word) for i, word in enumerate(words)])
+        return packed([field(i, word) for i, word in enumerate(words)])
     except (ValueError, struct.error) as error:
         sys.exit(f"{error}: {line}")
 
@@ -60,8 +74,8 @@ def cards(line):
     count, star, rest = line.partition(" * ")
     if not star:
         return [card(line)]
-    first = struct.unpack(CARD, card(rest))
-    return [struct.pack(CARD, *first[:9], first[9] + i) for i in range(int(count))]
+    first = unpacked(card(rest))
+    return [packed([*first[:9], first[9] + i]) for i in range(int(count))]
 
 
 def register(found):
@@ -88,7 +102,7 @@ def shown(data):
     names = [{number: word for word, number in words.items()} for words in WORDS]
     text = "# kind state ground containment cas pounds area wall temperature number\n"
     for at in range(7, length, 24):
-        values = list(struct.unpack(CARD, data[at:at + 24]))
+        values = list(unpacked(data[at:at + 24]))
         if values[0] == 2 and values[1:4] == [0, 0, 0]:
             values[1:4] = ["-", "-", "-"]
         words = [names[i].get(v, v) if i < len(names) else v for i, v in enumerate(values)]

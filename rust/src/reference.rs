@@ -76,6 +76,7 @@ enum Fault {
     Room = 13,
     Wall = 14,
     Temperature = 15,
+    Concentration = 16,
 }
 
 impl Fault {

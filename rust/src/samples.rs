@@ -2,7 +2,7 @@
 
 pub mod lines;
 
-use crate::reference::printed::{printed, Factor, Phase, Plume, Toxic};
+use crate::reference::printed::{printed, Factor, LiquidFactors, Phase, Plume, Solute, Toxic};
 use crate::reference::{self, ANSWER_LEN, CARD_LEN, HEADER_LEN};
 
 /// The most pounds a card may have.
@@ -11,6 +11,9 @@ pub const MAX_POUNDS: u32 = 10_000_000;
 pub const MAX_AREA: u32 = 1_000_000;
 /// The highest wall a card may have, in hundredths of a foot.
 pub const MAX_WALL: u16 = 10_000;
+
+/// The state of a solution.
+pub const SOLUTION: u8 = 5;
 
 /// Ammonia, chlorine and sulfur dioxide.
 const WITH_OWN_TABLE: [u32; 3] = [7_664_417, 7_782_505, 7_446_095];
@@ -72,7 +75,7 @@ impl Rng {
 pub struct Card {
     /// 1 toxic, 2 flammable.
     pub kind: u8,
-    /// 1 gas, 2 liquefied under pressure, 3 liquefied by refrigeration, 4 liquid.
+    /// 1 gas, 2 liquefied under pressure, 3 liquefied by refrigeration, 4 liquid, 5 solution.
     pub state: u8,
     /// 1 rural, 2 urban.
     pub ground: u8,
@@ -86,8 +89,8 @@ pub struct Card {
     pub area: u32,
     /// Wall in hundredths of a foot.
     pub wall: u16,
-    /// Tenths of a degree Celsius.
-    pub tenths: i16,
+    /// Tenths of a degree Celsius, or in state 5 of a percent. Its two bytes hold -32,768 to 32,767, or 0 to 65,535.
+    pub tenths: i32,
     /// Card number.
     pub number: u32,
 }
@@ -101,7 +104,7 @@ impl Card {
         bytes[8..12].copy_from_slice(&self.pounds.to_be_bytes());
         bytes[12..16].copy_from_slice(&self.area.to_be_bytes());
         bytes[16..18].copy_from_slice(&self.wall.to_be_bytes());
-        bytes[18..20].copy_from_slice(&self.tenths.to_be_bytes());
+        bytes[18..20].copy_from_slice(&(self.tenths as u16).to_be_bytes());
         bytes[20..].copy_from_slice(&self.number.to_be_bytes());
         bytes
     }
@@ -148,6 +151,18 @@ pub fn sound_cards(rng: &mut Rng, count: usize) -> Vec<Card> {
     (0..count).map(&mut next).collect()
 }
 
+/// Cards as [`sound_cards`] makes them, most of them solutions and one of them at least.
+pub fn cards_with_solutions(rng: &mut Rng, count: usize) -> Vec<Card> {
+    let mut cards = sound_cards(rng, count);
+    let certain = rng.below(count as u64) as usize;
+    for (place, card) in cards.iter_mut().enumerate() {
+        if place == certain || !rng.one_in(4) {
+            *card = solution_card(rng, card.number);
+        }
+    }
+    cards
+}
+
 /// From a card's number to the next card's: mostly 1, sometimes far.
 fn step(rng: &mut Rng) -> u32 {
     if rng.one_in(8) {
@@ -165,12 +180,16 @@ fn sound_card(rng: &mut Rng, number: u32) -> Card {
         let pounds = if rng.one_in(4) { rng.any_size(2_000_000) } else { rng.near(quantity, 2_000_000) };
         return Card { kind: 2, cas, pounds, number, ..Card::default() };
     }
+    if rng.one_in(6) {
+        return solution_card(rng, number);
+    }
     let toxic = toxic_substance(rng);
     let ground = rng.between(1, 2) as u8;
     let frame = Card { kind: 1, ground, cas: toxic.cas, number, ..Card::default() };
     match &toxic.phase {
-        Phase::Gas => gas_card(rng, frame, toxic),
-        Phase::Liquid(_) => liquid_card(rng, frame, toxic),
+        Phase::Gas { lfb } => gas_card(rng, frame, toxic, *lfb),
+        Phase::Liquid(factors) => liquid_card(rng, frame, toxic, factors),
+        Phase::Solution { .. } => unreachable!("B-1 and B-2 have no solution"),
     }
 }
 
@@ -186,11 +205,11 @@ fn toxic_substance(rng: &mut Rng) -> &'static Toxic {
     toxics.iter().filter(|toxic| apart(toxic)).nth(wanted as usize).unwrap_or(first)
 }
 
-fn gas_card(rng: &mut Rng, frame: Card, toxic: &Toxic) -> Card {
+fn gas_card(rng: &mut Rng, frame: Card, toxic: &Toxic, lfb: u64) -> Card {
     let state = rng.between(1, 3) as u8;
     let frame = Card { state, ..frame };
     if state == 3 && rng.one_in(2) {
-        return pool_card(rng, Card { containment: 1, ..frame }, toxic, toxic.lfb * 100);
+        return pool_card(rng, Card { containment: 1, ..frame }, toxic, lfb * 100);
     }
     let rate = edge_rate(rng, toxic);
     if rng.one_in(3) {
@@ -202,22 +221,40 @@ fn gas_card(rng: &mut Rng, frame: Card, toxic: &Toxic) -> Card {
     Card { pounds, ..frame }
 }
 
-fn liquid_card(rng: &mut Rng, frame: Card, toxic: &Toxic) -> Card {
+fn liquid_card(rng: &mut Rng, frame: Card, toxic: &Toxic, factors: &LiquidFactors) -> Card {
     let tenths = edge_temperature(rng);
     let containment = rng.below(3) as u8;
-    let frame = Card { state: 4, containment, tenths, ..frame };
-    pool_card(rng, frame, toxic, liquid_times_temperature(toxic, tenths))
+    let frame = Card { state: 4, containment, tenths: i32::from(tenths), ..frame };
+    pool_card(rng, frame, toxic, liquid_times_temperature(factors, tenths))
 }
 
 /// LF in millionths times TCF in hundredths, as near as a sample needs it.
-fn liquid_times_temperature(toxic: &Toxic, tenths: i16) -> u64 {
-    match &toxic.phase {
-        Phase::Liquid(factors) if tenths <= 500 => match factors.at(tenths) {
-            Factor::Times(hundredths) => factors.lfa * hundredths,
-            Factor::UseBoiling | Factor::NoData => toxic.lfb * 100,
-        },
-        _ => toxic.lfb * 100,
+fn liquid_times_temperature(factors: &LiquidFactors, tenths: i16) -> u64 {
+    match factors.at(tenths) {
+        Factor::Times(hundredths) if tenths <= 500 => factors.lfa * hundredths,
+        _ => factors.lfb * 100,
     }
+}
+
+/// A solution of a substance of B-3, held in any way.
+fn solution_card(rng: &mut Rng, number: u32) -> Card {
+    let solute = rng.pick(printed().solutes());
+    let tenths = edge_concentration(rng, solute);
+    let (_, row) = solute.rows().find(|(printed, _)| *printed >= tenths).expect("none is above the highest");
+    let Phase::Solution { lfa } = row.phase else {
+        unreachable!("B-3 has solutions alone");
+    };
+    let frame = Card {
+        kind: 1,
+        state: SOLUTION,
+        ground: rng.between(1, 2) as u8,
+        containment: rng.below(3) as u8,
+        cas: solute.cas,
+        tenths: i32::from(tenths),
+        number,
+        ..Card::default()
+    };
+    pool_card(rng, frame, row, lfa * 100)
 }
 
 /// Pounds, area and wall such that the pool's rate falls on or near an edge of a table, or the pool's area or duration
@@ -286,6 +323,23 @@ fn edge_rate(rng: &mut Rng, toxic: &Toxic) -> u64 {
     };
     let edges = if rng.one_in(2) { table.rates() } else { table.cuts() };
     *rng.pick(edges)
+}
+
+/// A concentration at or a tenth beside a printed one, a small one, or any that is in range.
+fn edge_concentration(rng: &mut Rng, solute: &Solute) -> u16 {
+    let printed: Vec<u16> = solute.rows().map(|(printed, _)| printed).collect();
+    let highest = highest_concentration(solute);
+    let tenths = match rng.below(6) {
+        0 => 1 + rng.below(u64::from(highest)) as u16,
+        1 => *rng.pick(&[1, 2, 3, 10, 100]),
+        _ => rng.pick(&printed).saturating_add_signed(*rng.pick(&[0, 0, -1, 1])),
+    };
+    tenths.clamp(1, highest)
+}
+
+/// The highest concentration that is printed for a substance of B-3, in tenths of a percent.
+pub fn highest_concentration(solute: &Solute) -> u16 {
+    solute.rows().map(|(printed, _)| printed).max().expect("a printed concentration")
 }
 
 /// A temperature at or near a column of B-4, a midpoint or a limit, or any.

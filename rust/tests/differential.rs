@@ -8,16 +8,20 @@ mod lent;
 
 use lent::{hex, Lent, READ_LINES, WRITE_LINES};
 use rings_second::proved;
-use rings_second::reference::printed::{printed, Factor, Phase, Toxic};
+use rings_second::reference::printed::{printed, Factor, Phase, Solute, Toxic};
 use rings_second::reference::{self, Farthest, Refused, ANSWER_LEN, CARD_LEN, HEADER_LEN, MAX_CARDS, MAX_STRICT_LINE};
-use rings_second::samples::{self, Card, Rng, MAX_AREA, MAX_POUNDS, MAX_WALL};
+use rings_second::samples::{self, highest_concentration, Card, Rng, MAX_AREA, MAX_POUNDS, MAX_WALL, SOLUTION};
+use std::collections::BTreeMap;
 
 const SEED: u64 = 0x0155_0b99_0009;
 const RANDOM_REGISTERS: usize = 1_000_000;
+/// Registers beside those, most of whose cards are solutions.
+const REGISTERS_OF_SOLUTIONS: usize = 250_000;
 const LEAST_OF_EACH: usize = 1_000;
+const LEAST_WITH_SOLUTIONS: usize = 400_000;
 
 /// How often each refusal was met, by its number.
-type Refusals = [usize; 16];
+type Refusals = [usize; 17];
 
 /// The refusals that a register is never answered with: they are of comma lines alone.
 const NOT_OF_ANSWERS: [usize; 2] = [12, 13];
@@ -31,8 +35,13 @@ fn the_proved_library_and_the_reference_agree() {
     sweep_temperatures(&mut comparison);
     sweep_ranges(&mut comparison);
     sweep_flammables(&mut comparison);
+    sweep_solutions(&mut comparison);
     for _ in 0..RANDOM_REGISTERS {
         let (register, buffer_len) = random_case(&mut comparison.rng);
+        comparison.compare(&register, buffer_len);
+    }
+    for _ in 0..REGISTERS_OF_SOLUTIONS {
+        let (register, buffer_len) = random_case_of_solutions(&mut comparison.rng);
         comparison.compare(&register, buffer_len);
     }
     comparison.report();
@@ -63,6 +72,7 @@ struct Comparison {
     refused: Refusals,
     routes: [usize; 4],
     tables: [usize; 14],
+    solutions: Solutions,
     lines: Lines,
 }
 
@@ -75,6 +85,7 @@ impl Comparison {
             refused: Refusals::default(),
             routes: [0; 4],
             tables: [0; 14],
+            solutions: Solutions::default(),
             lines: Lines::default(),
         }
     }
@@ -101,6 +112,7 @@ impl Comparison {
             );
         }
         self.count(ours.err(), register.len());
+        self.solutions.count(ours.err(), register);
         let written = self.lines.compare(&mut self.rng, register);
         assert!(written || ours.is_err(), "an accepted register was not written: {}", hex(register));
     }
@@ -134,7 +146,69 @@ impl Comparison {
         for met in self.routes[1..].iter().chain(&self.tables[1..]) {
             assert!(*met >= LEAST_OF_EACH, "a case was met too seldom");
         }
+        self.solutions.report();
         self.lines.report();
+    }
+}
+
+/// What was met of solutions.
+#[derive(Default)]
+struct Solutions {
+    /// Registers with a card in state 5, and those of them that were accepted.
+    registers: usize,
+    accepted: usize,
+    refused: Refusals,
+    /// Accepted cards by the row of B-3 that they read: its CAS number and its concentration.
+    rows: BTreeMap<(u32, u16), usize>,
+    /// Accepted cards by ground and containment.
+    held: BTreeMap<(u8, u8), usize>,
+}
+
+impl Solutions {
+    fn count(&mut self, refused: Option<Refused>, register: &[u8]) {
+        let cards = register.get(HEADER_LEN..).unwrap_or_default().chunks_exact(CARD_LEN);
+        let solutions: Vec<&[u8]> = cards.filter(|card| card[..2] == [1, SOLUTION]).collect();
+        if solutions.is_empty() {
+            return;
+        }
+        self.registers += 1;
+        match refused {
+            Some(Refused { number, .. }) => self.refused[usize::from(number)] += 1,
+            None => {
+                self.accepted += 1;
+                solutions.into_iter().for_each(|card| self.count_card(card));
+            }
+        }
+    }
+
+    fn count_card(&mut self, card: &[u8]) {
+        let cas = u32::from_be_bytes([card[4], card[5], card[6], card[7]]);
+        let tenths = u16::from_be_bytes([card[18], card[19]]);
+        let solute = printed().solute(cas).expect("an accepted solution is of B-3");
+        let concentrations = solute.rows().map(|(printed, _)| printed);
+        let row = concentrations.filter(|printed| *printed >= tenths).min().expect("not above the highest");
+        *self.rows.entry((cas, row)).or_default() += 1;
+        *self.held.entry((card[2], card[3])).or_default() += 1;
+    }
+
+    fn report(&self) {
+        println!("{} registers with solutions, {} accepted", self.registers, self.accepted);
+        for (number, met) in self.refused.iter().enumerate().filter(|(_, met)| **met > 0) {
+            println!("with solutions and refused {number:2}: {met}");
+        }
+        for ((cas, tenths), met) in &self.rows {
+            println!("solutions of {cas} read at {}.{} %: {met} cards", tenths / 10, tenths % 10);
+        }
+        for ((ground, containment), met) in &self.held {
+            println!("solutions on ground {ground} in containment {containment}: {met} cards");
+        }
+        assert!(self.registers >= LEAST_WITH_SOLUTIONS, "too few registers had solutions");
+        assert!(self.accepted * 4 >= self.registers, "too few registers with solutions were accepted");
+        let printed_rows: usize = printed().solutes().iter().map(|solute| solute.rows().count()).sum();
+        assert_eq!((self.rows.len(), self.held.len()), (printed_rows, 2 * 3), "each row, each way to hold one");
+        for met in self.rows.values().chain(self.held.values()).chain([&self.refused[7], &self.refused[16]]) {
+            assert!(*met >= LEAST_OF_EACH, "a case of solutions was met too seldom");
+        }
     }
 }
 
@@ -264,7 +338,7 @@ fn contained(rng: &mut Rng, card: Card, toxic: &Toxic) -> Card {
 /// Every liquid at every temperature around the columns of B-4.
 fn sweep_temperatures(comparison: &mut Comparison) {
     for toxic in printed().toxics() {
-        if matches!(toxic.phase, Phase::Gas) {
+        if matches!(toxic.phase, Phase::Gas { .. }) {
             continue;
         }
         for tenths in (-502..-497).chain(240..=510).chain(2_998..3_003) {
@@ -282,7 +356,7 @@ fn sweep_ranges(comparison: &mut Comparison) {
     const SUBSTANCES: [u32; 2] = [7_726_956, 7_782_505];
     const AREAS: [u32; 4] = [0, 1, MAX_AREA, MAX_AREA + 1];
     const WALLS: [u16; 4] = [0, MAX_WALL, MAX_WALL + 1, u16::MAX];
-    const TENTHS: [i16; 6] = [i16::MIN, -501, -500, 0, 3_000, 3_001];
+    const TENTHS: [i32; 6] = [-32_768, -501, -500, 0, 3_000, 3_001];
     for code in 0..2 * 2 * 4 * 3 * 4 * 4 * 6 {
         let mut code = code;
         let mut next = |choices: usize| {
@@ -318,10 +392,86 @@ fn sweep_flammables(comparison: &mut Comparison) {
     }
 }
 
+/// Every substance of B-3 at, below and above every printed concentration, at concentrations of all sizes and at none, on
+/// both grounds, held in every way, at quantities of all sizes; and the toxic substances that B-3 lacks.
+fn sweep_solutions(comparison: &mut Comparison) {
+    const POUNDS: [u32; 12] =
+        [0, 1, 10, 155, 2_249, 20_000, 50_000, 420_000, 2_000_010, 9_999_999, MAX_POUNDS, MAX_POUNDS + 1];
+    for solute in printed().solutes() {
+        for tenths in telling_concentrations(solute) {
+            let (_, row) = solute.rows().find(|(printed, _)| *printed >= tenths).unwrap_or_else(|| highest_row(solute));
+            for pounds in POUNDS {
+                sweep_holding(comparison, solution(solute.cas, tenths, pounds), row);
+            }
+        }
+        // The same substance in the other states, with a concentration left standing and without.
+        for (state, tenths) in (1..5).flat_map(|state| [(state, 0), (state, 370)]) {
+            let card = Card { state, ..solution(solute.cas, tenths, 20_000) };
+            sweep_holding(comparison, card, highest_row(solute).1);
+        }
+    }
+    let lacking = printed().toxics().iter().filter(|toxic| printed().solute(toxic.cas).is_none());
+    for toxic in lacking {
+        for tenths in [0, 1, 370, u16::MAX] {
+            sweep_holding(comparison, solution(toxic.cas, tenths, 20_000), toxic);
+        }
+    }
+}
+
+/// A card of a solution, numbered 1, whose ground and containment are not yet filled.
+fn solution(cas: u32, tenths: u16, pounds: u32) -> Card {
+    Card { kind: 1, state: SOLUTION, cas, pounds, tenths: i32::from(tenths), number: 1, ..Card::default() }
+}
+
+/// The printed concentrations, their neighbours, small ones, and those that no substance has.
+fn telling_concentrations(solute: &Solute) -> Vec<u16> {
+    let beside = solute.rows().flat_map(|(printed, _)| [printed - 1, printed, printed + 1]);
+    let others = [0, 1, 2, 10, 100, 1_000, 1_001, 32_767, 32_768, 65_535];
+    let mut tenths: Vec<u16> = beside.chain(others).collect();
+    tenths.sort_unstable();
+    tenths.dedup();
+    tenths
+}
+
+fn highest_row(solute: &Solute) -> (u16, &Toxic) {
+    solute.rows().last().expect("a printed concentration")
+}
+
+/// A card on both grounds and held in every way: in the open, in dikes with walls of all heights, in buildings.
+fn sweep_holding(comparison: &mut Comparison, card: Card, row: &Toxic) {
+    let full = u64::from(card.pounds) * row.density_factor / 100;
+    let small = (full / 5).clamp(1, u64::from(MAX_AREA)) as u32;
+    // The wall that just holds the spill in the smaller dike, or the highest.
+    let holding = (full * 33 / (10 * u64::from(small))).min(u64::from(MAX_WALL)) as u16;
+    for ground in 1..=2 {
+        let card = Card { ground, ..card };
+        let mut compare = |card: Card| comparison.compare(&samples::register(&[card]), ANSWER_LEN);
+        compare(card);
+        for (area, wall) in [(small, 0), (small, 1), (small, holding), (small, MAX_WALL), (MAX_AREA, 1), (1, 5)] {
+            compare(Card { containment: 1, area, wall, ..card });
+        }
+        compare(Card { containment: 1, area: small, wall: MAX_WALL + 1, ..card });
+        for area in [0, 1, small, MAX_AREA, MAX_AREA + 1] {
+            compare(Card { containment: 2, area, ..card });
+        }
+    }
+}
+
 // Random registers, sound, faulty and damaged.
 
 fn random_case(rng: &mut Rng) -> (Vec<u8>, usize) {
-    let mut cards = random_cards(rng);
+    let cards = random_cards(rng);
+    case_of(rng, cards)
+}
+
+fn random_case_of_solutions(rng: &mut Rng) -> (Vec<u8>, usize) {
+    let count = rng.between(1, 6) as usize;
+    let cards = samples::cards_with_solutions(rng, count);
+    case_of(rng, cards)
+}
+
+/// A register of sound cards, some of them spoiled and some of its bytes damaged, or none, and a length of buffer.
+fn case_of(rng: &mut Rng, mut cards: Vec<Card>) -> (Vec<u8>, usize) {
     if rng.one_in(40) {
         cards.iter_mut().rev().zip(0..).for_each(|(card, back)| card.number = u32::MAX - back);
     }
@@ -396,13 +546,15 @@ fn spoil_form(rng: &mut Rng, card: &mut Card) {
         3 => card.containment = code,
         4 => card.area = rng.any_size(MAX_AREA),
         5 => card.wall = rng.any_size(u32::from(MAX_WALL)) as u16,
-        _ => card.tenths = *rng.pick(&[1, -1, 250, i16::MIN]),
+        _ => card.tenths = *rng.pick(&[1, -1, 250, -32_768]),
     }
 }
 
-/// A CAS number that is not listed, or that is listed for the other kind.
+/// A CAS number that is not listed, or that is listed for the other kind or for another state.
 fn other_substance(rng: &mut Rng, card: &Card) -> u32 {
     match rng.below(6) {
+        3 | 4 if card.state == SOLUTION => rng.pick(printed().toxics()).cas,
+        4 if card.kind == 1 => rng.pick(printed().solutes()).cas,
         0 => card.cas.wrapping_add(1),
         1 => card.cas.wrapping_sub(1),
         2 => *rng.pick(&[0, 1, u32::MAX, 8_014_957]),
@@ -412,7 +564,7 @@ fn other_substance(rng: &mut Rng, card: &Card) -> u32 {
     }
 }
 
-/// An area, wall or temperature out of range, in a card that has the field.
+/// An area, wall, temperature or concentration out of range, in a card that has the field.
 fn spoil_range(rng: &mut Rng, card: &mut Card) {
     if card.kind != 1 {
         return;
@@ -420,13 +572,21 @@ fn spoil_range(rng: &mut Rng, card: &mut Card) {
     match rng.below(3) {
         0 if card.containment != 0 => card.area = *rng.pick(&[0, MAX_AREA + 1, u32::MAX]),
         1 if card.containment == 1 => card.wall = *rng.pick(&[MAX_WALL + 1, u16::MAX]),
-        _ if card.state == 4 => card.tenths = *rng.pick(&[-501, 3_001, i16::MIN, i16::MAX]),
+        _ if card.state == 4 => card.tenths = *rng.pick(&[-501, 3_001, -32_768, 32_767]),
+        _ if card.state == SOLUTION => card.tenths = concentration_out_of_range(rng, card.cas),
         _ => {
             card.containment = 1;
             card.area = *rng.pick(&[0, 1, MAX_AREA, MAX_AREA + 1]);
             card.wall = *rng.pick(&[0, 1, MAX_WALL, MAX_WALL + 1]);
         }
     }
+}
+
+/// None, one above the highest that is printed for a substance, one that a signed number could not hold, or any.
+fn concentration_out_of_range(rng: &mut Rng, cas: u32) -> i32 {
+    let highest = printed().solute(cas).map_or(1_000, highest_concentration);
+    let above = highest + 1 + rng.below(u64::from(u16::MAX - highest)) as u16;
+    i32::from(*rng.pick(&[0, 0, highest + 1, highest + 1, 32_768, u16::MAX, above]))
 }
 
 /// A state that the substance or the dike does not admit, or a temperature without data.
@@ -446,8 +606,8 @@ fn spoil_state(rng: &mut Rng, card: &mut Card) {
         card.tenths = *rng.pick(&[274, 275, 325, 500, 501]);
         return;
     }
-    card.state = rng.between(1, 4) as u8;
-    if card.state != 4 {
+    card.state = rng.between(1, 5) as u8;
+    if card.state < 4 {
         card.tenths = 0;
         if rng.one_in(4) {
             card.containment = 1;

@@ -10,8 +10,8 @@ mod lent;
 use breakers::{lengthen, Breaker, Filler, BREAKERS};
 use lent::{Lent, READ_LINES, WRITE_LINES};
 use rings_second::reference::{Refused, CARD_LEN, HEADER_LEN, MAX_CARDS, MAX_LEN, MAX_LINE};
-use rings_second::samples::lines::{any_card, decorated_text, strict_text, text, Line, CAS, REMARK};
-use rings_second::samples::{accepted_cards, register, sound_cards, Card, Rng};
+use rings_second::samples::lines::{any_card, decorated_text, strict_text, text, Line, CAS, REMARK, STATE, TENTHS};
+use rings_second::samples::{accepted_cards, cards_with_solutions, register, sound_cards, Card, Rng, SOLUTION};
 use rings_second::{proved, reference};
 use std::cmp::Ordering;
 use std::collections::BTreeMap;
@@ -24,6 +24,8 @@ const OF_EACH_LENGTH: usize = 1_000;
 const DAMAGED: usize = 80_000;
 const PIECED: usize = 80_000;
 const RANDOM: usize = 20_000;
+/// Texts of each state and each ninth field that tells the states apart.
+const OF_EACH_TENTHS: usize = 20;
 /// Rounds through all numbers of lines, places of a bad one, and rooms.
 const ROUNDS_OF_COUNTS: usize = 4;
 
@@ -39,6 +41,7 @@ fn both_read_the_same() {
     second_feeds(&mut comparison);
     lengths_of_lines(&mut comparison);
     numbers_of_lines(&mut comparison);
+    tenths_by_state(&mut comparison);
     every_byte_everywhere(&mut comparison);
     damaged_texts(&mut comparison);
     pieced_texts(&mut comparison);
@@ -188,6 +191,8 @@ struct Comparison {
     /// By the length of a line that was made so long, and by how many lines there are where there are many.
     lengths: BTreeMap<usize, Tally>,
     counts: BTreeMap<usize, Tally>,
+    /// Texts whose ninth field is looked at, with the line in state 5 and with it in another.
+    states: BTreeMap<&'static str, Tally>,
     /// Texts with and without the last line feed.
     fed: Tally,
     unfed: Tally,
@@ -238,6 +243,7 @@ impl Comparison {
         print_tallies("a buffer that is", &self.rooms);
         print_tallies("with a line of so many bytes:", &self.lengths);
         print_tallies("so many lines:", &self.counts);
+        print_tallies("a ninth field in", &self.states);
         print_tallies("made as", &self.sorts);
         let seldom = self.broken.values().min().expect("a rule");
         let rules: Vec<_> = self.broken.keys().copied().collect();
@@ -252,7 +258,8 @@ impl Comparison {
         let by_count = [MAX_CARDS - 1, MAX_CARDS, MAX_CARDS + 1].map(|count| &self.counts[&count]);
         assert_eq!(self.rooms.len(), 5);
         assert_eq!(self.broken.len(), BREAKERS.len() + 1, "each rule has a name of its own");
-        for tally in by_length.into_iter().chain(self.rooms.values()).chain([&self.fed, &self.unfed]) {
+        let states = [&self.states["state 5"], &self.states["another state"]];
+        for tally in by_length.into_iter().chain(self.rooms.values()).chain(states).chain([&self.fed, &self.unfed]) {
             assert!(tally.texts() >= LEAST_OF_EACH, "a case was met too seldom");
         }
         for tally in by_count {
@@ -277,6 +284,7 @@ fn print_tallies<K: std::fmt::Display>(what: &str, tallies: &BTreeMap<K, Tally>)
 fn sound_lines(rng: &mut Rng) -> (Vec<Card>, Vec<Line>) {
     let count = rng.below(7) as usize;
     let cards = match rng.below(4) {
+        0 if count > 0 && rng.one_in(3) => cards_with_solutions(rng, count),
         0 => sound_cards(rng, count),
         _ => (0..count).map(|_| any_card(rng)).collect(),
     };
@@ -402,13 +410,73 @@ fn compare_many(comparison: &mut Comparison, pool: &[(Card, Line)], count: usize
     comparison.counts.entry(count).or_default().count(outcome);
 }
 
+// The ninth field, which is a concentration in state 5 and a temperature in every other.
+
+/// A ninth field with its value as a concentration and as a temperature, where it is well formed as one.
+const TELLING_TENTHS: [(&str, Option<i32>, Option<i32>); 20] = [
+    ("0", Some(0), Some(0)),
+    ("000", Some(0), Some(0)),
+    ("1", Some(1), Some(1)),
+    ("370", Some(370), Some(370)),
+    ("00370", Some(370), Some(370)),
+    (" 370 ", Some(370), Some(370)),
+    ("32767", Some(32_767), Some(32_767)),
+    ("32768", Some(32_768), None),
+    ("65535", Some(65_535), None),
+    ("0065535", Some(65_535), None),
+    ("65536", None, None),
+    ("4294967666", None, None),
+    ("-1", None, Some(-1)),
+    ("-370", None, Some(-370)),
+    ("-32768", None, Some(-32_768)),
+    ("-32769", None, None),
+    ("-0", None, None),
+    ("+1", None, None),
+    ("37.0", None, None),
+    ("", None, None),
+];
+
+/// Each such field in state 5 and in the others, on lines of every kind.
+fn tenths_by_state(comparison: &mut Comparison) {
+    const KINDS: [u8; 4] = [0, 1, 2, 255];
+    const STATES: [(&str, u8); 9] =
+        [("5", 5), (" 005 ", 5), ("0", 0), ("1", 1), ("4", 4), ("6", 6), ("15", 15), ("50", 50), ("255", 255)];
+    for (tenths, concentration, temperature) in TELLING_TENTHS {
+        for (kind, (state, code)) in KINDS.into_iter().flat_map(|kind| STATES.map(|state| (kind, state))) {
+            let value = if code == SOLUTION { concentration } else { temperature };
+            for _ in 0..OF_EACH_TENTHS {
+                let card = Card { kind, state: code, tenths: value.unwrap_or(0), ..any_card(&mut comparison.rng) };
+                let mut line = some_line(&mut comparison.rng, &card);
+                line.fields[STATE] = state.into();
+                line.fields[TENTHS] = tenths.into();
+                compare_among_others(comparison, card, line, value.is_some());
+            }
+        }
+    }
+}
+
+/// A card's line, well formed or not, anywhere among sound ones.
+fn compare_among_others(comparison: &mut Comparison, card: Card, line: Line, well_formed: bool) {
+    let rng = &mut comparison.rng;
+    let (mut cards, mut lines) = sound_lines(rng);
+    let place = rng.below(lines.len() as u64 + 1) as usize;
+    cards.insert(place, card);
+    lines.insert(place, line);
+    let last_feed = rng.one_in(2);
+    let made = if well_formed { Made::Of(&cards) } else { Made::BadAt(place + 1) };
+    let outcome = comparison.compare("lines by state", &text(&lines, last_feed), made);
+    let state = if card.state == SOLUTION { "state 5" } else { "another state" };
+    comparison.states.entry(state).or_default().count(outcome);
+}
+
 // Texts of which nothing is known beforehand.
 
 /// A line with each byte put at each place, in place of what is there and before it, and with each byte left out.
 fn every_byte_everywhere(comparison: &mut Comparison) {
     const SORT: &str = "any byte at any place";
-    const LINES: [&[u8]; 2] = [
+    const LINES: [&[u8]; 3] = [
         b"1,4,2,1,7726-95-6,20000,100,400,250,12,\n",
+        b"1,05,1,2,7647-01-0,50000,900,0,40000,14,\n",
         b" 001 ,4, 2 ,1 , 07726-95-6,  20000,0100 , 400,-0025 ,012, \"shed\"\r",
     ];
     for line in LINES {
@@ -478,7 +546,7 @@ fn pieced_texts(comparison: &mut Comparison) {
 
 fn pieced_line(rng: &mut Rng) -> Line {
     // At any place well formed, at some or nowhere.
-    const SUITED: [&str; 6] = ["0", "00", "1", " 1", "9 ", "255"];
+    const SUITED: [&str; 8] = ["0", "00", "1", " 1", "9 ", "255", "5", " 05"];
     const SUITED_CAS: [&str; 4] = ["7782-50-5", " 07782-50-5 ", "0-00-0", "4294967-29-5"];
     #[rustfmt::skip]
     const DOUBTFUL: [&str; 26] = [

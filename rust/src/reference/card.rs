@@ -1,7 +1,7 @@
 //! A card's 24 bytes, taken apart into a meaning or a refusal.
 
 use super::printed::{Flammable, Phase, Printed, Toxic};
-use super::units::{Pounds, SquareFeet};
+use super::units::{Concentration, Pounds, SquareFeet};
 use super::{Fault, CARD_LEN};
 use std::ops::RangeInclusive;
 
@@ -10,7 +10,10 @@ const AREA: RangeInclusive<u32> = 1..=1_000_000;
 const WALL: RangeInclusive<u16> = 0..=10_000;
 const TEMPERATURE: RangeInclusive<i16> = -500..=3_000;
 
-/// A card that passed checks 5 to 9, 14 and 15, and 10 as far as its fields alone decide it.
+/// The code of the state whose cards have a concentration where others have a temperature.
+pub const SOLUTION: u8 = 5;
+
+/// A card that passed checks 5 to 9 and 14 to 16, and 10 as far as its fields alone decide it.
 pub struct Card<'p> {
     pub number: u32,
     pub meaning: Meaning<'p>,
@@ -22,6 +25,7 @@ pub enum Meaning<'p> {
 }
 
 pub struct ToxicCard<'p> {
+    /// The row of B-1 or B-2, or in state 5 the one of B-3 that the concentration reads.
     pub substance: &'p Toxic,
     pub state: State,
     pub ground: Ground,
@@ -36,6 +40,8 @@ pub enum State {
     Refrigerated,
     /// A liquid, at tenths of a degree Celsius.
     Liquid(i16),
+    /// A solution in water, or oleum, always at 25 °C.
+    Solution(Concentration),
 }
 
 #[derive(Debug, Clone, Copy, PartialEq, Eq)]
@@ -87,8 +93,35 @@ pub struct Fields {
     pub pounds: u32,
     pub area: u32,
     pub wall: u16,
-    pub tenths: i16,
+    pub tenths: Tenths,
     pub number: u32,
+}
+
+/// Bytes 18 and 19 as they stand: tenths of a degree or of a percent, and only the state tells which.
+#[derive(Debug, Clone, Copy, PartialEq, Eq)]
+pub struct Tenths([u8; 2]);
+
+impl Tenths {
+    /// Both bytes zero, as they must be where neither a temperature nor a concentration applies.
+    pub const BLANK: Self = Self([0; 2]);
+
+    pub fn from_temperature(tenths: i16) -> Self {
+        Self(tenths.to_be_bytes())
+    }
+
+    pub fn from_concentration(concentration: Concentration) -> Self {
+        Self(concentration.tenths().to_be_bytes())
+    }
+
+    /// Signed, outside state 5.
+    pub fn temperature(self) -> i16 {
+        i16::from_be_bytes(self.0)
+    }
+
+    /// Unsigned, in state 5.
+    pub fn concentration(self) -> Concentration {
+        Concentration::from_tenths(u16::from_be_bytes(self.0))
+    }
 }
 
 impl Fields {
@@ -104,7 +137,7 @@ impl Fields {
             pounds: word(8),
             area: word(12),
             wall: u16::from_be_bytes([bytes[16], bytes[17]]),
-            tenths: i16::from_be_bytes([bytes[18], bytes[19]]),
+            tenths: Tenths([bytes[18], bytes[19]]),
             number: word(20),
         }
     }
@@ -117,7 +150,7 @@ impl Fields {
         bytes[8..12].copy_from_slice(&self.pounds.to_be_bytes());
         bytes[12..16].copy_from_slice(&self.area.to_be_bytes());
         bytes[16..18].copy_from_slice(&self.wall.to_be_bytes());
-        bytes[18..20].copy_from_slice(&self.tenths.to_be_bytes());
+        bytes[18..20].copy_from_slice(&self.tenths.0);
         bytes[20..].copy_from_slice(&self.number.to_be_bytes());
         bytes
     }
@@ -134,33 +167,66 @@ fn demand(holds: bool, fault: Fault) -> Result<(), Fault> {
 
 fn flammable<'p>(fields: &Fields, printed: &'p Printed) -> Result<Meaning<'p>, Fault> {
     let Fields { state, ground, containment, area, wall, tenths, .. } = *fields;
-    let bare = (state, ground, containment) == (0, 0, 0) && (area, wall, tenths) == (0, 0, 0);
+    let bare = (state, ground, containment) == (0, 0, 0) && (area, wall, tenths) == (0, 0, Tenths::BLANK);
     demand(bare, Fault::Form)?;
     let substance = printed.flammable(fields.cas).ok_or(Fault::Substance)?;
     demand(POUNDS.contains(&fields.pounds), Fault::Pounds)?;
     Ok(Meaning::Flammable { substance, pounds: Pounds::new(fields.pounds) })
 }
 
-/// Checks 6 to 9, 14, 15 and 10, in this order: each stage settles one number before the next is looked at. A field that
-/// does not apply is zero once 6 has passed.
+/// Checks 6 to 9, 14, 15 or 16, and 10, in this order: each stage settles one number before the next is looked at. A field
+/// that does not apply is zero once 6 has passed.
 fn toxic<'p>(fields: &Fields, printed: &'p Printed) -> Result<ToxicCard<'p>, Fault> {
     let (state, ground, containment) = form(fields)?;
+    let substance = match state {
+        State::Solution(concentration) => solution(fields, containment, concentration, printed)?,
+        _ => pure_substance(fields, containment, state, printed)?,
+    };
+    Ok(ToxicCard { substance, state, ground, containment, pounds: Pounds::new(fields.pounds) })
+}
+
+/// Checks 7 to 9, 14, 15 and 10 in states 1 to 4.
+fn pure_substance<'p>(
+    fields: &Fields,
+    containment: Containment,
+    state: State,
+    printed: &'p Printed,
+) -> Result<&'p Toxic, Fault> {
     let substance = printed.toxic(fields.cas).ok_or(Fault::Substance)?;
+    ranges(fields, containment)?;
+    // Outside state 4 the field is zero, which is in range.
+    demand(TEMPERATURE.contains(&fields.tenths.temperature()), Fault::Temperature)?;
+    demand(fits(&substance.phase, state, containment), Fault::Exhibit)?;
+    Ok(substance)
+}
+
+/// Checks 7 to 9, 14 and 16 in state 5. Every containment suits a solution and B-3 has no blank, so 10 refuses none.
+fn solution<'p>(
+    fields: &Fields,
+    containment: Containment,
+    concentration: Concentration,
+    printed: &'p Printed,
+) -> Result<&'p Toxic, Fault> {
+    let solute = printed.solute(fields.cas).ok_or(Fault::Substance)?;
+    ranges(fields, containment)?;
+    solute.at(concentration).ok_or(Fault::Concentration)
+}
+
+/// Checks 8, 9 and 14, which are the same in every state.
+fn ranges(fields: &Fields, containment: Containment) -> Result<(), Fault> {
     demand(POUNDS.contains(&fields.pounds), Fault::Pounds)?;
     demand(containment == Containment::Open || AREA.contains(&fields.area), Fault::Area)?;
-    demand(WALL.contains(&fields.wall), Fault::Wall)?;
-    demand(TEMPERATURE.contains(&fields.tenths), Fault::Temperature)?;
-    demand(fits(&substance.phase, state, containment), Fault::Exhibit)?;
-    Ok(ToxicCard { substance, state, ground, containment, pounds: Pounds::new(fields.pounds) })
+    demand(WALL.contains(&fields.wall), Fault::Wall)
 }
 
 /// Check 6: the codes of bytes 1 to 3, and zero in each field that does not apply to them.
 fn form(fields: &Fields) -> Result<(State, Ground, Containment), Fault> {
     let state = match (fields.state, fields.tenths) {
-        (1, 0) => State::Gas,
-        (2, 0) => State::Pressurised,
-        (3, 0) => State::Refrigerated,
-        (4, tenths) => State::Liquid(tenths),
+        (1, Tenths::BLANK) => State::Gas,
+        (2, Tenths::BLANK) => State::Pressurised,
+        (3, Tenths::BLANK) => State::Refrigerated,
+        (4, tenths) => State::Liquid(tenths.temperature()),
+        (SOLUTION, tenths) => State::Solution(tenths.concentration()),
         _ => return Err(Fault::Form),
     };
     // Checked first and read then, so that a sound card needs no jump here: its ground can't be foreseen by a processor.
@@ -175,12 +241,13 @@ fn form(fields: &Fields) -> Result<(State, Ground, Containment), Fault> {
     Ok((state, ground, containment))
 }
 
-/// Check 10, as far as no factor is read: the state suits the exhibit, and only what can pool is diked.
+/// Check 10 in states 1 to 4, as far as no factor is read: the state suits the exhibit, and only what can pool is diked.
 fn fits(phase: &Phase, state: State, containment: Containment) -> bool {
     let diked = matches!(containment, Containment::Dike(_));
     match (phase, state) {
-        (Phase::Liquid(_), State::Liquid(_)) | (Phase::Gas, State::Refrigerated) => true,
-        (Phase::Gas, State::Gas | State::Pressurised) => !diked,
-        (Phase::Gas, State::Liquid(_)) | (Phase::Liquid(_), _) => false,
+        (Phase::Liquid(_), State::Liquid(_)) | (Phase::Gas { .. }, State::Refrigerated) => true,
+        (Phase::Gas { .. }, State::Gas | State::Pressurised) => !diked,
+        (Phase::Gas { .. }, State::Liquid(_) | State::Solution(_)) => false,
+        (Phase::Liquid(_) | Phase::Solution { .. }, _) => false,
     }
 }

@@ -1,11 +1,13 @@
-//! Comma lines, request A1 of document 02: one card a line, eleven fields between commas, the last a remark.
+//! Comma lines, request A1 of document 02: one card a line, eleven fields between commas, the last a remark. By request
+//! A3 the ninth is a temperature or a concentration, as the second says.
 //!
 //! Reading looks at the form of a line alone. What its numbers mean is the register's business when it is answered.
 
 #[cfg(test)]
 mod tests;
 
-use super::card::Fields;
+use super::card::{Fields, Tenths, SOLUTION};
+use super::units::Concentration;
 use super::{answers, card_bytes, Fault, Refused, CARD_LEN, HEADER_LEN, MAX_CARDS, VERSION};
 
 /// The most bytes of a line, without its line feed.
@@ -71,16 +73,17 @@ fn read_line(line: &[u8]) -> Option<Fields> {
     }
     let mut fields = line.split(|&byte| byte == b',');
     let mut next = || fields.next().map(without_spaces);
+    let (kind, state) = (number(next()?)?, number(next()?)?);
     let card = Fields {
-        kind: number(next()?)?,
-        state: number(next()?)?,
+        kind,
+        state,
         ground: number(next()?)?,
         containment: number(next()?)?,
         cas: cas_number(next()?)?,
         pounds: number(next()?)?,
         area: number(next()?)?,
         wall: number(next()?)?,
-        tenths: temperature(next()?)?,
+        tenths: tenths(next()?, state)?,
         number: number(next()?)?,
     };
     // The remark may be any bytes, and ends the line: one more comma would make a twelfth field.
@@ -102,6 +105,15 @@ fn without_spaces(mut field: &[u8]) -> &[u8] {
 /// A number that fits the bytes it is read for. Its value decides, so zeros before it do no harm.
 fn number<N: TryFrom<u32>>(digits: &[u8]) -> Option<N> {
     N::try_from(value(digits)?).ok()
+}
+
+/// A concentration in the state of a solution, whatever the kind; else a temperature.
+fn tenths(field: &[u8], state: u8) -> Option<Tenths> {
+    if state == SOLUTION {
+        number(field).map(Concentration::from_tenths).map(Tenths::from_concentration)
+    } else {
+        temperature(field).map(Tenths::from_temperature)
+    }
 }
 
 /// Tenths of a degree, the only number that may have a minus. Zero has none.
@@ -152,12 +164,21 @@ fn write_line(text: &mut Vec<u8>, card: &Fields) {
     for number in [card.pounds, card.area, u32::from(card.wall)] {
         write_field(text, number);
     }
-    if card.tenths < 0 {
-        text.push(b'-');
-    }
-    write_field(text, u32::from(card.tenths.unsigned_abs()));
+    write_tenths(text, card.tenths, card.state);
     write_field(text, card.number);
     text.push(b'\n');
+}
+
+/// A concentration in the state of a solution, else a temperature with its sign.
+fn write_tenths(text: &mut Vec<u8>, tenths: Tenths, state: u8) {
+    if state == SOLUTION {
+        return write_field(text, u32::from(tenths.concentration().tenths()));
+    }
+    let temperature = tenths.temperature();
+    if temperature < 0 {
+        text.push(b'-');
+    }
+    write_field(text, u32::from(temperature.unsigned_abs()));
 }
 
 fn write_field(text: &mut Vec<u8>, number: u32) {

@@ -3,8 +3,8 @@
 //! A file that is not of the printed form is a mistake of this repository and not of a register, so it panics.
 
 use super::card::Ground;
-use super::units::{Miles, Pounds, PoundsPerMinute};
-use std::collections::HashSet;
+use super::units::{Concentration, Miles, Pounds, PoundsPerMinute};
+use std::collections::{BTreeMap, HashSet};
 use std::sync::LazyLock;
 
 /// The number of the table for blasts.
@@ -28,6 +28,7 @@ pub fn printed() -> &'static Printed {
 /// The exhibits and the tables, with their entries in use.
 pub struct Printed {
     toxics: Listed<Toxic>,
+    solutes: Listed<Solute>,
     flammables: Listed<Flammable>,
     quantities: Vec<u64>,
     neutral: [RatioTable; 4],
@@ -44,38 +45,54 @@ struct Listed<S> {
     slots: Vec<Option<(u32, usize)>>,
 }
 
-/// A row of Exhibit B-1 or B-2.
+/// A row of Exhibit B-1, B-2 or B-3.
 pub struct Toxic {
     /// CAS number without hyphens.
     pub cas: u32,
     /// DF, in hundredths.
     pub density_factor: u64,
-    /// LFB, in millionths.
-    pub lfb: u64,
     /// The endpoint, in hundred-thousandths of a mg/L.
     pub endpoint: u64,
     /// What the exhibit's worst-case column says.
     pub plume: Plume,
-    /// A gas of B-1, or a liquid of B-2 with its factors.
+    /// Which exhibit the row is of, with the liquid factors that it prints.
     pub phase: Phase,
     /// The column of Tables 5 to 8 that is closest to the endpoint.
     dense_column: usize,
 }
 
-/// Which of the toxic exhibits lists a substance.
+/// Which of the toxic exhibits a row is of. Liquid factors are in millionths.
 pub enum Phase {
-    /// Exhibit B-1.
-    Gas,
+    /// Exhibit B-1, whose gases have a factor at boiling alone.
+    Gas {
+        /// LFB.
+        lfb: u64,
+    },
     /// Exhibit B-2.
     Liquid(LiquidFactors),
+    /// Exhibit B-3, whose solutions are at 25 °C and have no factor at boiling.
+    Solution {
+        /// LFA at a wind of 1.5 metres per second.
+        lfa: u64,
+    },
 }
 
-/// The factors of a liquid that is not at its boiling point.
+/// The factors of a liquid.
 pub struct LiquidFactors {
     /// LFA, in millionths.
     pub lfa: u64,
+    /// LFB, in millionths.
+    pub lfb: u64,
     /// The row of Exhibit B-4, from 25 °C on.
     by_column: [Factor; 6],
+}
+
+/// A substance of Exhibit B-3.
+pub struct Solute {
+    /// CAS number without hyphens.
+    pub cas: u32,
+    /// The concentrations that are printed for it, rising, each with its row.
+    rows: Vec<(Concentration, Toxic)>,
 }
 
 /// An entry of Exhibit B-4.
@@ -133,9 +150,14 @@ pub struct RateTable {
 }
 
 impl Printed {
-    /// The toxic substance of a CAS number.
+    /// The toxic substance of a CAS number, in B-1 or B-2.
     pub fn toxic(&self, cas: u32) -> Option<&Toxic> {
         self.toxics.find(cas)
+    }
+
+    /// The substance of a CAS number that B-3 has solutions of.
+    pub fn solute(&self, cas: u32) -> Option<&Solute> {
+        self.solutes.find(cas)
     }
 
     /// The flammable substance of a CAS number.
@@ -143,9 +165,14 @@ impl Printed {
         self.flammables.find(cas)
     }
 
-    /// All toxic substances.
+    /// All toxic substances of B-1 and B-2.
     pub fn toxics(&self) -> &[Toxic] {
         &self.toxics.substances
+    }
+
+    /// All substances of B-3.
+    pub fn solutes(&self) -> &[Solute] {
+        &self.solutes.substances
     }
 
     /// All flammable substances.
@@ -187,8 +214,10 @@ impl Printed {
             Sheet::cut(include_str!("../../../data/table08.tsv")),
         ];
         let blast = Sheet::cut(include_str!("../../../data/table13.tsv"));
+        let endpoints = shared_endpoints(&dense);
         Printed {
-            toxics: read_toxics(&shared_endpoints(&dense)),
+            toxics: read_toxics(&endpoints),
+            solutes: read_solutes(&endpoints),
             flammables: read_flammables(&blast),
             quantities: rising(blast.header[2..].iter().map(|cell| decimal(cell, 0)).collect()),
             neutral: [
@@ -340,7 +369,7 @@ impl LiquidFactors {
         self.by_column[TEMPERATURE_CUTS.partition_point(|&cut| cut <= tenths)]
     }
 
-    fn read(lfa: u64, b4: &Sheet, b4_row: &[&str]) -> Self {
+    fn read(lfa: u64, lfb: u64, b4: &Sheet, b4_row: &[&str]) -> Self {
         let mut by_column = [Factor::Times(100); 6];
         for (entry, name) in by_column[1..].iter_mut().zip(TEMPERATURE_COLUMNS) {
             *entry = match b4.cell(b4_row, name) {
@@ -349,7 +378,7 @@ impl LiquidFactors {
                 factor => Factor::Times(decimal(factor, 2)),
             };
         }
-        LiquidFactors { lfa, by_column }
+        LiquidFactors { lfa, lfb, by_column }
     }
 }
 
@@ -359,7 +388,6 @@ impl Toxic {
         Toxic {
             cas: cas_number(sheet.cell(row, "cas")),
             density_factor: decimal(sheet.cell(row, "df"), 2),
-            lfb: decimal(sheet.cell(row, "lfb"), 6),
             endpoint,
             plume: match sheet.cell(row, plume_column) {
                 "Dense" => Plume::Dense,
@@ -369,6 +397,27 @@ impl Toxic {
             phase,
             dense_column: closest_endpoint(endpoints, endpoint),
         }
+    }
+}
+
+impl Solute {
+    /// The row of the lowest printed concentration that is not below one: none above the highest, and none for zero.
+    pub(super) fn at(&self, concentration: Concentration) -> Option<&Toxic> {
+        if concentration == Concentration::NONE {
+            return None;
+        }
+        self.rows.iter().find(|(printed, _)| *printed >= concentration).map(|(_, row)| row)
+    }
+
+    /// The printed concentrations, rising, in tenths of a percent, each with its row.
+    pub fn rows(&self) -> impl Iterator<Item = (u16, &Toxic)> {
+        self.rows.iter().map(|(printed, row)| (printed.tenths(), row))
+    }
+
+    fn new(cas: u32, mut rows: Vec<(Concentration, Toxic)>) -> Self {
+        rows.sort_by_key(|(printed, _)| *printed);
+        assert!(rows.is_sorted_by(|a, b| a.0 < b.0), "a concentration of {cas} is printed twice");
+        Solute { cas, rows }
     }
 }
 
@@ -401,15 +450,31 @@ fn read_toxics(endpoints: &[u64]) -> Listed<Toxic> {
     let b1 = Sheet::cut(include_str!("../../../data/b1.tsv"));
     let b2 = Sheet::cut(include_str!("../../../data/b2.tsv"));
     let b4 = Sheet::cut(include_str!("../../../data/b4.tsv"));
-    let gases = b1.rows.iter().map(|row| Toxic::read(&b1, row, "reference_table", Phase::Gas, endpoints));
+    let gases = b1.rows.iter().map(|row| {
+        let phase = Phase::Gas { lfb: liquid_factor(b1.cell(row, "lfb")) };
+        Toxic::read(&b1, row, "reference_table", phase, endpoints)
+    });
     let liquids = b2.rows.iter().map(|row| {
         let cas = b2.cell(row, "cas");
         let b4_row = b4.rows.iter().find(|row| b4.cell(row, "cas") == cas);
         let b4_row = b4_row.expect("Exhibit B-4 has a row for each liquid");
-        let factors = LiquidFactors::read(decimal(b2.cell(row, "lfa"), 6), &b4, b4_row);
+        let [lfa, lfb] = ["lfa", "lfb"].map(|column| liquid_factor(b2.cell(row, column)));
+        let factors = LiquidFactors::read(lfa, lfb, &b4, b4_row);
         Toxic::read(&b2, row, "worst_case_table", Phase::Liquid(factors), endpoints)
     });
     Listed::new(gases.chain(liquids).collect(), |toxic| toxic.cas)
+}
+
+fn read_solutes(endpoints: &[u64]) -> Listed<Solute> {
+    let b3 = Sheet::cut(include_str!("../../../data/b3.tsv"));
+    let mut by_cas: BTreeMap<u32, Vec<(Concentration, Toxic)>> = BTreeMap::new();
+    for row in &b3.rows {
+        let phase = Phase::Solution { lfa: liquid_factor(b3.cell(row, "lfa_1_5")) };
+        let toxic = Toxic::read(&b3, row, "worst_case_table", phase, endpoints);
+        by_cas.entry(toxic.cas).or_default().push((concentration(b3.cell(row, "percent")), toxic));
+    }
+    let solutes = by_cas.into_iter().map(|(cas, rows)| Solute::new(cas, rows));
+    Listed::new(solutes.collect(), |solute| solute.cas)
 }
 
 fn read_flammables(blast: &Sheet) -> Listed<Flammable> {
@@ -461,6 +526,18 @@ fn decimal(cell: &str, places: usize) -> u64 {
     assert!(fraction.len() <= places, "{cell} has more than {places} decimals");
     let digits = whole.replace(',', "") + fraction + &"0".repeat(places - fraction.len());
     digits.parse().unwrap_or_else(|_| panic!("{cell} is no figure"))
+}
+
+/// A printed liquid factor, in millionths.
+fn liquid_factor(cell: &str) -> u64 {
+    decimal(cell, 6)
+}
+
+/// A printed percentage of a solution's weight.
+fn concentration(cell: &str) -> Concentration {
+    let tenths = decimal(cell, 1);
+    assert!((1..=1_000).contains(&tenths), "{cell} is no percentage of a solution");
+    Concentration::from_tenths(tenths as u16)
 }
 
 /// A printed distance, with the marks for a near and a far one; the only blanks are near ones, in Table 10.

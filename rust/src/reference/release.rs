@@ -1,7 +1,7 @@
 //! Pool area, route, rate and choice of table of a toxic card.
 
 use super::card::{Containment, Dike, Ground, State, ToxicCard};
-use super::printed::{Factor, Phase, Plume, Table, Toxic};
+use super::printed::{Factor, LiquidFactors, Phase, Plume, Table};
 use super::units::{Pounds, PoundsPerMinute, SquareFeet};
 use super::Fault;
 
@@ -46,8 +46,21 @@ struct Evaporation {
 }
 
 impl Evaporation {
-    fn boiling(substance: &Toxic) -> Self {
-        Evaporation { liquid_factor: substance.lfb, temperature_factor: ONE }
+    /// By LFB, or by the LFA of a solution: no temperature factor belongs to either.
+    fn by(liquid_factor: u64) -> Self {
+        Evaporation { liquid_factor, temperature_factor: ONE }
+    }
+
+    /// That of a liquid of B-2 at tenths of a degree. Fails only where B-4 has no data for it.
+    fn of_liquid(factors: &LiquidFactors, tenths: i16) -> Result<Self, Fault> {
+        if tenths > HOTTEST_COLUMN {
+            return Ok(Self::by(factors.lfb));
+        }
+        match factors.at(tenths) {
+            Factor::Times(temperature_factor) => Ok(Evaporation { liquid_factor: factors.lfa, temperature_factor }),
+            Factor::UseBoiling => Ok(Self::by(factors.lfb)),
+            Factor::NoData => Err(Fault::Exhibit),
+        }
     }
 }
 
@@ -63,21 +76,11 @@ impl ToxicCard<'_> {
     /// How the substance evaporates, or `None` if it leaves as a gas over ten minutes.
     fn evaporation(&self) -> Result<Option<Evaporation>, Fault> {
         match (self.state, &self.substance.phase, self.containment) {
-            (State::Liquid(tenths), Phase::Liquid(factors), _) => {
-                if tenths > HOTTEST_COLUMN {
-                    return Ok(Some(Evaporation::boiling(self.substance)));
-                }
-                match factors.at(tenths) {
-                    Factor::Times(temperature_factor) => {
-                        Ok(Some(Evaporation { liquid_factor: factors.lfa, temperature_factor }))
-                    }
-                    Factor::UseBoiling => Ok(Some(Evaporation::boiling(self.substance))),
-                    Factor::NoData => Err(Fault::Exhibit),
-                }
-            }
+            (State::Liquid(tenths), Phase::Liquid(factors), _) => Evaporation::of_liquid(factors, tenths).map(Some),
+            (State::Solution(_), Phase::Solution { lfa }, _) => Ok(Some(Evaporation::by(*lfa))),
             // In a dike larger than its full area, a refrigerated gas lies shallow and leaves at once.
-            (State::Refrigerated, _, Containment::Dike(dike)) if self.full_area() > dike.area => {
-                Ok(Some(Evaporation::boiling(self.substance)))
+            (State::Refrigerated, Phase::Gas { lfb }, Containment::Dike(dike)) if self.full_area() > dike.area => {
+                Ok(Some(Evaporation::by(*lfb)))
             }
             _ => Ok(None),
         }
@@ -99,7 +102,12 @@ impl ToxicCard<'_> {
     fn pool_release(&self, evaporation: Evaporation) -> Release {
         let sheltered = matches!(self.containment, Containment::Building { .. });
         let rate = pool_rate(evaporation, self.pool_area(), sheltered);
-        Release { route: Route::Pool, rate, span: span(self.pounds, rate) }
+        let span = match self.state {
+            // A solution gives off most while it is strong: its first ten minutes count, however long the pool stands.
+            State::Solution(_) => Span::TenMinutes,
+            _ => span(self.pounds, rate),
+        };
+        Release { route: Route::Pool, rate, span }
     }
 
     /// Pounds × DF: exact, since DF has two decimals and areas are held in hundredths.
@@ -143,7 +151,7 @@ impl ToxicCard<'_> {
     fn plume(&self) -> Plume {
         match self.state {
             State::Pressurised | State::Refrigerated => Plume::Dense,
-            State::Gas | State::Liquid(_) => self.substance.plume,
+            State::Gas | State::Liquid(_) | State::Solution(_) => self.substance.plume,
         }
     }
 }

@@ -1,4 +1,4 @@
-//! Document 01's listing, refusals and cards to try, and the guidance's own examples.
+//! Document 01's listing, refusals and cards to try, the solutions of document 02, and the guidance's own examples.
 
 use super::{answer, listing, Accepted, Farthest, Refused, ANSWER_LEN, MAX_CARDS, MAX_LEN};
 use crate::samples::{register, Card};
@@ -6,6 +6,9 @@ use crate::samples::{register, Card};
 const AMMONIA: u32 = 7_664_417;
 const BROMINE: u32 = 7_726_956;
 const CHLORINE: u32 = 7_782_505;
+const HYDROCHLORIC_ACID: u32 = 7_647_010;
+const NITRIC_ACID: u32 = 7_697_372;
+const OLEUM: u32 = 8_014_957;
 const SULFUR_DIOXIDE: u32 = 7_446_095;
 const PROPANE: u32 = 74_986;
 
@@ -30,7 +33,7 @@ fn in_building(card: Card, area: u32) -> Card {
     Card { containment: 2, area, ..card }
 }
 
-fn at(card: Card, tenths: i16) -> Card {
+fn at(card: Card, tenths: i32) -> Card {
     Card { tenths, ..card }
 }
 
@@ -45,6 +48,11 @@ fn chlorine(ground: u8, pounds: u32) -> Card {
 /// Card 12 of the example, in the open and numbered 1.
 fn bromine() -> Card {
     at(toxic(BROMINE, 4, URBAN, 20_000), 250)
+}
+
+/// A solution of so many tenths of a percent, in the open, rural and numbered 1.
+fn solution(cas: u32, tenths: i32, pounds: u32) -> Card {
+    at(toxic(cas, 5, RURAL, pounds), tenths)
 }
 
 /// Route, table, rate and miles of a single card, as its listing prints them.
@@ -126,6 +134,7 @@ fn the_examples_of_refusals() {
     assert_eq!(refusal_of(toxic(AMMONIA, 3, URBAN, 7_500_010)), Some((11, 0)));
     assert_eq!(refusal_of(diked(bromine(), 100, 10_001)), Some((14, 0)));
     assert_eq!(refusal_of(at(bromine(), 3_001)), Some((15, 0)));
+    assert_eq!(refusal_of(solution(HYDROCHLORIC_ACID, 0, 1)), Some((16, 0)));
 }
 
 #[test]
@@ -160,24 +169,54 @@ fn a_field_that_must_be_zero_is_6_and_one_out_of_range_is_9_or_14_or_15() {
     assert_eq!(refusal_of(at(bromine(), 3_001)), Some((15, 0)));
 }
 
-#[test]
-fn the_checks_come_in_their_order() {
-    let mut card = Card { number: 0, state: 9, cas: 1, pounds: 0, ..at(diked(bromine(), 0, 10_001), 3_001) };
-    assert_eq!(refusal_of(card), Some((5, 0)));
-    // Each mend lets the next check find its fault: the last is a gas in state 4.
-    let mends: [(u8, fn(&mut Card)); 7] = [
-        (6, |card| card.number = 1),
-        (7, |card| card.state = 4),
-        (8, |card| card.cas = CHLORINE),
-        (9, |card| card.pounds = 1),
-        (14, |card| card.area = 1),
-        (15, |card| card.wall = 1),
-        (10, |card| card.tenths = 250),
-    ];
+/// A check's number, and the mend after which it is the next to find its fault.
+type Mend = (u8, fn(&mut Card));
+
+/// The card after all mends, each of which lets the next check find its fault.
+fn mended(mut card: Card, mends: &[Mend]) -> Card {
     for (number, mend) in mends {
         mend(&mut card);
-        assert_eq!(refusal_of(card), Some((number, 0)));
+        assert_eq!(refusal_of(card), Some((*number, 0)));
     }
+    card
+}
+
+#[test]
+fn the_checks_come_in_their_order() {
+    let card = Card { number: 0, state: 9, cas: 1, pounds: 0, ..at(diked(bromine(), 0, 10_001), 3_001) };
+    assert_eq!(refusal_of(card), Some((5, 0)));
+    // The last is a gas in state 4.
+    mended(
+        card,
+        &[
+            (6, |card| card.number = 1),
+            (7, |card| card.state = 4),
+            (8, |card| card.cas = CHLORINE),
+            (9, |card| card.pounds = 1),
+            (14, |card| card.area = 1),
+            (15, |card| card.wall = 1),
+            (10, |card| card.tenths = 250),
+        ],
+    );
+}
+
+#[test]
+fn the_checks_of_a_solution_come_in_their_order() {
+    let card = Card { number: 0, state: 6, ..at(diked(toxic(CHLORINE, 5, RURAL, 0), 0, 10_001), 0) };
+    assert_eq!(refusal_of(card), Some((5, 0)));
+    let card = mended(
+        card,
+        &[
+            (6, |card| card.number = 1),
+            (7, |card| card.state = 5),
+            (8, |card| card.cas = HYDROCHLORIC_ACID),
+            (9, |card| card.pounds = 1),
+            (14, |card| card.area = 1),
+            (16, |card| card.wall = 1),
+        ],
+    );
+    // No 10 is left to be found.
+    assert_eq!(refusal_of(at(card, 370)), None);
 }
 
 #[test]
@@ -231,6 +270,65 @@ fn temperatures_read_the_closest_column() {
     assert_eq!(refusal_of(at(toxic(ACRYLYL_CHLORIDE, 4, RURAL, 1_000), 501)), None);
 }
 
+#[test]
+fn a_solution_is_of_b_3_alone() {
+    for cas in [CHLORINE, BROMINE, SULFUR_DIOXIDE, PROPANE] {
+        assert_eq!(refusal_of(solution(cas, 100, 1)), Some((7, 0)));
+        assert_eq!(refusal_of(solution(cas, 0, 1)), Some((7, 0)));
+    }
+    // In the other states its substances are what B-1 and B-2 say, or nothing.
+    assert_eq!(line(toxic(HYDROCHLORIC_ACID, 1, RURAL, 10_000)), "1 5 1000.000 6.20");
+    assert_eq!(refusal_of(at(toxic(HYDROCHLORIC_ACID, 4, RURAL, 10_000), 250)), Some((10, 0)));
+    assert_eq!(line(at(toxic(NITRIC_ACID, 4, RURAL, 10_000), 250)), "2 6 53.760 3.80");
+    for state in 1..=4 {
+        assert_eq!(refusal_of(toxic(OLEUM, state, RURAL, 1)), Some((7, 0)));
+    }
+    assert_eq!(refusal_of(Card { state: 5, ..flammable(PROPANE, 1) }), Some((6, 0)));
+    assert_eq!(refusal_of(Card { state: 6, ..solution(OLEUM, 300, 1) }), Some((6, 0)));
+}
+
+#[test]
+fn a_concentration_reads_the_lowest_printed_one_not_below_it() {
+    // 30 % is buoyant and the others are dense: 9.408 / 0.030 is 313.6.
+    let strengths = [
+        (1, "2 1 9.408 0.60"),
+        (299, "2 1 9.408 0.60"),
+        (300, "2 1 9.408 0.60"),
+        (301, "2 5 28.224 1.30"),
+        (340, "2 5 28.224 1.30"),
+        (341, "2 5 42.336 1.70"),
+        (360, "2 5 42.336 1.70"),
+        (361, "2 5 49.980 1.70"),
+        (370, "2 5 49.980 1.70"),
+        (371, "2 5 57.400 1.70"),
+        (380, "2 5 57.400 1.70"),
+    ];
+    for (tenths, expected) in strengths {
+        assert_eq!(line(solution(HYDROCHLORIC_ACID, tenths, 10_000)), expected, "{tenths} tenths");
+    }
+    // The highest is the substance's own, and no concentration is a temperature.
+    for (cas, highest) in [(AMMONIA, 300), (HYDROCHLORIC_ACID, 380), (NITRIC_ACID, 900), (OLEUM, 300)] {
+        assert_eq!(refusal_of(solution(cas, highest, 1)), None);
+        for tenths in [0, highest + 1, 1_000, 3_001, 32_768, 65_035, 65_535] {
+            assert_eq!(refusal_of(solution(cas, tenths, 1)), Some((16, 0)));
+        }
+    }
+}
+
+#[test]
+fn a_solution_is_contained_like_a_liquid_and_read_for_ten_minutes() {
+    let acid = solution(HYDROCHLORIC_ACID, 370, 50_000);
+    assert_eq!(line(acid), "2 5 249.900 3.40");
+    assert_eq!(line(diked(acid, 9_000, 8)), "2 5 107.100 2.20");
+    // An area of 16,363.64.
+    assert_eq!(line(diked(acid, 9_000, 5)), "2 5 194.728 2.70");
+    assert_eq!(line(diked(acid, 9_000, 1)), "2 5 249.900 3.40");
+    assert_eq!(line(in_building(acid, 400)), "2 5 0.476 0.20");
+    assert_eq!(line(Card { ground: URBAN, ..diked(acid, 400, 10_000) }), "2 7 4.760 0.40");
+    assert_eq!(line(solution(AMMONIA, 300, 100_000)), "2 10 2002.000 2.20");
+    assert_eq!(line(solution(OLEUM, 300, 10_000)), "2 1 2.800 0.60");
+}
+
 /// The guidance rounds what it prints; these are the exact values of the same cards.
 #[test]
 fn the_examples_of_the_guidance() {
@@ -248,6 +346,8 @@ fn the_examples_of_the_guidance() {
     assert!(line(at(toxic(ACRYLONITRILE, 4, URBAN, 20_000), 770)).starts_with("2 8 1878.800 "));
     // Example 9: bromine at 35 °C.
     assert!(line(at(diked(bromine(), 100, 400), 350)).starts_with("2 8 15.330 "));
+    // Example 10: hydrochloric acid of 37 percent in a dike that holds it.
+    assert!(line(diked(solution(HYDROCHLORIC_ACID, 370, 50_000), 9_000, 100)).starts_with("2 5 107.100 "));
     // Example 14: ethylene oxide.
     assert_eq!(line(toxic(ETHYLENE_OXIDE, 1, RURAL, 10_000)), "1 5 1000.000 3.60");
     // Examples 16 and 18: propane and ethylene.

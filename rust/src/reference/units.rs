@@ -1,4 +1,5 @@
-//! The four units of the guidance. They never stand for one another, so each is a type of its own.
+//! The four units of the guidance, and the concentration of a solution. They never stand for one another, so each is a
+//! type of its own.
 
 use std::fmt;
 
@@ -17,6 +18,10 @@ pub struct SquareFeet(u64);
 /// Miles, in hundredths.
 #[derive(Debug, Clone, Copy, PartialEq, Eq, PartialOrd, Ord)]
 pub struct Miles(u16);
+
+/// How much of a solution's weight is the substance, in tenths of a percent.
+#[derive(Debug, Clone, Copy, PartialEq, Eq, PartialOrd, Ord)]
+pub struct Concentration(u16);
 
 impl Pounds {
     pub const fn new(pounds: u32) -> Self {
@@ -61,6 +66,19 @@ impl Miles {
     }
 
     pub const fn hundredths(self) -> u16 {
+        self.0
+    }
+}
+
+impl Concentration {
+    /// Water with nothing in it.
+    pub const NONE: Self = Self(0);
+
+    pub const fn from_tenths(tenths: u16) -> Self {
+        Self(tenths)
+    }
+
+    pub const fn tenths(self) -> u16 {
         self.0
     }
 }

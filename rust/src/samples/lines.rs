@@ -1,12 +1,14 @@
 //! Comma lines made from cards, in strict form or decorated with spaces, zeros and remarks.
 
-use super::{Card, Rng};
+use super::{Card, Rng, SOLUTION};
 use crate::reference::MAX_LINE;
 
 /// The places of a line's fields.
+pub const STATE: usize = 1;
+/// The number with hyphens.
 pub const CAS: usize = 4;
-/// Tenths of a degree, the field that may have a minus.
-pub const TEMPERATURE: usize = 8;
+/// Tenths of a degree, the field that may have a minus, or in state 5 of a percent, which may have none.
+pub const TENTHS: usize = 8;
 /// The remark, behind ten numbers.
 pub const REMARK: usize = 10;
 
@@ -93,19 +95,31 @@ pub fn decorated_text(rng: &mut Rng, cards: &[Card]) -> Vec<u8> {
     text(&lines, true)
 }
 
-/// A card of any numbers that its bytes can hold, whether or not it means anything.
+/// A card of any numbers that its bytes can hold, whether or not it means anything. Many are in state 5, of any kind.
 pub fn any_card(rng: &mut Rng) -> Card {
+    let state = if rng.one_in(4) { SOLUTION } else { any_number(rng, u32::from(u8::MAX)) as u8 };
+    let kind = if rng.one_in(4) { rng.between(1, 2) as u8 } else { any_number(rng, u32::from(u8::MAX)) as u8 };
     Card {
-        kind: any_number(rng, u32::from(u8::MAX)) as u8,
-        state: any_number(rng, u32::from(u8::MAX)) as u8,
+        kind,
+        state,
         ground: any_number(rng, u32::from(u8::MAX)) as u8,
         containment: any_number(rng, u32::from(u8::MAX)) as u8,
         cas: any_number(rng, u32::MAX),
         pounds: any_number(rng, u32::MAX),
         area: any_number(rng, u32::MAX),
         wall: any_number(rng, u32::from(u16::MAX)) as u16,
-        tenths: any_number(rng, u32::from(u16::MAX)) as u16 as i16,
+        tenths: any_tenths(rng, state),
         number: any_number(rng, u32::MAX),
+    }
+}
+
+/// Two bytes of any value as a state reads them: without a sign in state 5, with one in the others.
+fn any_tenths(rng: &mut Rng, state: u8) -> i32 {
+    let bytes = any_number(rng, u32::from(u16::MAX)) as u16;
+    if state == SOLUTION {
+        i32::from(bytes)
+    } else {
+        i32::from(bytes as i16)
     }
 }
 

@@ -1,7 +1,7 @@
 //! The rules of comma lines, each with a way to break it and no other.
 
 use rings_second::reference::MAX_LINE;
-use rings_second::samples::lines::{any_card, remark_byte, Line, CAS, REMARK, TEMPERATURE};
+use rings_second::samples::lines::{any_card, remark_byte, Line, CAS, REMARK, STATE, TENTHS};
 use rings_second::samples::Rng;
 
 /// A rule, and a change that makes a well-formed line break it.
@@ -21,7 +21,7 @@ const fn lengthener(rule: &'static str, spoil: fn(&mut Rng, &mut Line)) -> Break
     Breaker { rule, too_long: true, spoil }
 }
 
-pub static BREAKERS: [Breaker; 44] = [
+pub static BREAKERS: [Breaker; 47] = [
     // The fields.
     breaker("nine fields", |_, line| line.fields.truncate(9)),
     breaker("ten fields, without the last comma", |_, line| line.fields.truncate(REMARK)),
@@ -51,15 +51,22 @@ pub static BREAKERS: [Breaker; 44] = [
     breaker("two bytes too wide by one", |_, line| put(line, WALL, "65536")),
     breaker("four bytes too wide by one", |rng, line| put(line, *rng.pick(&FOUR_BYTES), "4294967296")),
     breaker("a CAS number too wide by one", |_, line| put(line, CAS, "4294967-29-6")),
-    breaker("a temperature too high by one", |_, line| put(line, TEMPERATURE, "32768")),
-    breaker("a temperature too low by one", |_, line| put(line, TEMPERATURE, "-32769")),
+    breaker("a temperature too high by one", |rng, line| put_tenths(rng, line, &WITH_TEMPERATURE, &["32768"])),
+    breaker("a temperature too low by one", |rng, line| put_tenths(rng, line, &WITH_TEMPERATURE, &["-32769"])),
+    breaker("a concentration too high by one", |rng, line| put_tenths(rng, line, &WITH_CONCENTRATION, &["65536"])),
     breaker("a number too wide that turns over into itself", turned_over),
     breaker("a number far too wide", far_too_wide),
     // The minus.
-    breaker("minus zero", |rng, line| put_one(rng, line, TEMPERATURE, &["-0", "-00", "-000", "-0000000"])),
-    breaker("a minus without digits", |_, line| put(line, TEMPERATURE, "-")),
-    breaker("a space behind the minus", |rng, line| put_one(rng, line, TEMPERATURE, &["- 5", "-  5", "- 0", "- 250"])),
-    breaker("a minus too many", |rng, line| put_one(rng, line, TEMPERATURE, &["--5", "-5-", "5-", "-+5", "2-5"])),
+    breaker("a minus before a concentration", |rng, line| {
+        put_tenths(rng, line, &WITH_CONCENTRATION, &["-1", "-005", "-370", "-500", "-32768", "-32769", "-65535"])
+    }),
+    breaker("minus zero before a concentration", |rng, line| {
+        put_tenths(rng, line, &WITH_CONCENTRATION, &["-0", "-00", "-000", "-0000000"])
+    }),
+    breaker("minus zero", |rng, line| put_one(rng, line, TENTHS, &["-0", "-00", "-000", "-0000000"])),
+    breaker("a minus without digits", |_, line| put(line, TENTHS, "-")),
+    breaker("a space behind the minus", |rng, line| put_one(rng, line, TENTHS, &["- 5", "-  5", "- 0", "- 250"])),
+    breaker("a minus too many", |rng, line| put_one(rng, line, TENTHS, &["--5", "-5-", "5-", "-+5", "2-5"])),
     breaker("a minus in another number", minus_elsewhere),
     breaker("a minus before a CAS number", |_, line| change(line, CAS, |cas| format!("-{cas}"))),
     // The groups of a CAS number.
@@ -77,6 +84,10 @@ pub static BREAKERS: [Breaker; 44] = [
 const ONE_BYTE: [usize; 4] = [0, 1, 2, 3];
 const FOUR_BYTES: [usize; 3] = [5, 6, 9];
 const WALL: usize = 7;
+
+/// States whose ninth field is a temperature, which every one but 5 is, and 5 as it may be written.
+const WITH_TEMPERATURE: [&str; 11] = ["0", "1", "2", "3", "4", "04", "6", "15", "50", "55", "255"];
+const WITH_CONCENTRATION: [&str; 3] = ["5", "05", "0000005"];
 
 /// The place of a number.
 fn any_place(rng: &mut Rng) -> usize {
@@ -109,6 +120,12 @@ fn put(line: &mut Line, place: usize, number: &str) {
 fn put_one(rng: &mut Rng, line: &mut Line, place: usize, numbers: &[&str]) {
     let number = *rng.pick(numbers);
     put(line, place, number);
+}
+
+/// Puts one of some states, and a temperature or concentration that goes by it.
+fn put_tenths(rng: &mut Rng, line: &mut Line, states: &[&str], tenths: &[&str]) {
+    put_one(rng, line, STATE, states);
+    put_one(rng, line, TENTHS, tenths);
 }
 
 fn change(line: &mut Line, place: usize, change: impl FnOnce(&str) -> String) {
@@ -203,7 +220,7 @@ fn turned_over(rng: &mut Rng, line: &mut Line) {
     let place = any_place(rng);
     let bits = match place {
         0..CAS => *rng.pick(&[8, 16, 32, 64]),
-        WALL | TEMPERATURE => *rng.pick(&[16, 32, 64]),
+        WALL | TENTHS => *rng.pick(&[16, 32, 64]),
         _ => *rng.pick(&[32, 64]),
     };
     let turns = u128::from(1 + rng.below(3)) << bits;
@@ -232,7 +249,7 @@ fn far_too_wide(rng: &mut Rng, line: &mut Line) {
     let minus = if rng.one_in(2) { "-" } else { "" };
     match place {
         CAS => put(line, CAS, &format!("{digits}-00-1")),
-        TEMPERATURE => put(line, TEMPERATURE, &format!("{minus}{digits}")),
+        TENTHS => put(line, TENTHS, &format!("{minus}{digits}")),
         _ => put(line, place, &digits),
     }
 }

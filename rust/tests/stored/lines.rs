@@ -2,7 +2,7 @@
 
 use crate::implementations::{Implementation, IMPLEMENTATIONS};
 use rings_second::reference::{Refused, CARD_LEN, HEADER_LEN, MAX_CARDS, MAX_LEN, MAX_STRICT_LINE};
-use rings_second::samples::{register, Card};
+use rings_second::samples::{register, Card, SOLUTION};
 
 const CASES: &str = include_str!("../../../tests/lines.txt");
 
@@ -121,8 +121,16 @@ fn card_of(bytes: &[u8]) -> Card {
         pounds: word(8),
         area: word(12),
         wall: (word(16) >> 16) as u16,
-        tenths: word(16) as u16 as i16,
+        tenths: tenths(bytes[1], word(16) as u16),
         number: word(20),
+    }
+}
+
+/// Tenths of a percent in state 5, without a sign; else of a degree, with one.
+fn tenths(state: u8, bytes: u16) -> i32 {
+    match state {
+        SOLUTION => i32::from(bytes),
+        _ => i32::from(bytes as i16),
     }
 }
 

@@ -1,4 +1,4 @@
-//! Request A1 of document 02, rule by rule.
+//! Request A1 of document 02, rule by rule, and what A3 adds to it.
 
 use super::{read_lines, write_lines, MAX_LINE, MAX_STRICT_LINE};
 use crate::reference::{answer, Refused, ANSWER_LEN, CARD_LEN, HEADER_LEN, MAX_CARDS, MAX_LEN};
@@ -11,6 +11,7 @@ const EXAMPLE: &str = "1,2,2,0,7782-50-5,2500,0,0,0,11,\n\
 
 /// A line's fields in their order, for the tests that change one of them.
 const FIELDS: [&str; 11] = ["1", "4", "2", "1", "7726-95-6", "20000", "100", "400", "250", "12", ""];
+const STATE: usize = 1;
 const CAS: usize = 4;
 const WALL: usize = 7;
 const TEMPERATURE: usize = 8;
@@ -210,6 +211,40 @@ fn a_minus_stands_before_the_digits_of_a_temperature_alone() {
     }
 }
 
+/// The line of [`FIELDS`] in another state and with another ninth field, read into its card.
+fn card_in(state: &str, tenths: &str) -> Option<Vec<u8>> {
+    let mut fields = FIELDS;
+    fields[STATE] = state;
+    fields[TEMPERATURE] = tenths;
+    read(fields.join(",")).ok().map(|register| register[HEADER_LEN..].to_vec())
+}
+
+#[test]
+fn a_concentration_has_no_sign_and_two_bytes() {
+    let solution = |tenths: i32| Some(Card { state: 5, tenths, ..bromine() }.bytes().to_vec());
+    for state in ["5", " 005 "] {
+        for (field, tenths) in
+            [("0", 0), ("1", 1), (" 0370 ", 370), ("32767", 32_767), ("32768", 32_768), ("65535", 65_535)]
+        {
+            assert_eq!(card_in(state, field), solution(tenths), "{field}");
+        }
+        for field in ["65536", "-1", "-0", "-32768", "+1", "", "37.0", "370 %", "4294967296"] {
+            assert_eq!(card_in(state, field), None, "{field}");
+        }
+    }
+    // The state alone decides, by its value.
+    for (state, code) in [("0", 0), ("4", 4), ("6", 6), ("50", 50), ("255", 255)] {
+        let cold = Card { state: code, tenths: -1, ..bromine() };
+        assert_eq!(card_in(state, "-1"), Some(cold.bytes().to_vec()));
+        assert_eq!(card_in(state, "32768"), None);
+    }
+    for kind in ["0", "1", "2", "255"] {
+        let line = |tenths: &str| format!("{kind},5,0,0,0-00-0,0,0,0,{tenths},1,");
+        assert!(read(line("65535")).is_ok());
+        assert_eq!(read(line("-1")), refused(12, 1));
+    }
+}
+
 #[test]
 fn a_cas_number_is_digits_then_two_then_one() {
     for (field, cas) in [("0-00-0", 0), ("7782-50-5", 7_782_505), ("007782-50-5", 7_782_505), ("4-00-0", 4_000)] {
@@ -323,7 +358,7 @@ fn what_numbers_mean_is_not_asked() {
         containment: 255,
         area: u32::MAX,
         wall: u16::MAX,
-        tenths: i16::MIN,
+        tenths: i32::from(i16::MIN),
         number: u32::MAX,
         ..Card::default()
     };
@@ -342,6 +377,14 @@ fn only_an_accepted_register_is_written() {
     assert_eq!(write_into(&[0, 0, 0, 7, 1, 0, 1], 0), refused(3, 0));
     assert_eq!(answer(&register(&example()), &mut []), Err(Refused { number: 4, place: 0 }));
     assert_eq!(write_into(&register(&example()), 0), refused(13, 0));
+}
+
+#[test]
+fn solutions_are_written_by_their_concentration() {
+    let acid = Card { state: 5, cas: 7_647_010, tenths: 370, ..bromine() };
+    assert_eq!(write(&register(&[acid])), Ok(b"1,5,2,1,7647-01-0,20000,100,400,370,12,\n".to_vec()));
+    let too_strong = register(&[Card { tenths: 65_535, ..acid }]);
+    assert_eq!(write_into(&too_strong, 0), refused(16, 0));
 }
 
 #[test]
