@@ -2,7 +2,7 @@
 -- Assumes nothing.
 use Prim.Native.Nat.{ℕ, _≤_, _<_}
 use native.Mathlib.Omega.{arith}
-use mathlib.Core.Path.{_≡_, _∙_, refl, sym, ap, subst}
+use mathlib.Core.Path.{_≡_, _∙_, refl, sym, ap}
 use mathlib.Core.Bool.{Bool, true, false}
 use mathlib.Core.List.{List}
 use mathlib.Core.Logic.{_⊎_, inl, inr, ⊎-elim}
@@ -10,7 +10,6 @@ use lib.Dec.{leb, eqb}
 use borrow.Author.Tests.{lt-leb, leb-false}
 use Rattle.search.specs.Laws.{clash}
 use Rattle.search.specs.Places.{either}
-use Rattle.units.specs.declared.Miles.{Miles}
 use Rattle.units.specs.declared.Reading.{Reading}
 use Rattle.units.specs.declared.Reading.the-variants as reading
 use Rattle.dispersion.specs.declared.Ground.{Ground}
@@ -24,7 +23,7 @@ use Rattle.scenario.specs.declared.Scenario.{Scenario}
 use Rattle.scenario.specs.declared.Planned.{Planned}
 use Rattle.scenario.specs.declared.Planned.the-variants as planned
 use Rattle.scenario.specs.Plan.{planOf}
-use Rattle.scenario.specs.Order.{Fuller, Faster, plan-faster}
+use Rattle.scenario.specs.Order.{Fuller, plan-faster}
 use Rattle.fields.specs.declared.Fields.{Fields}
 use Rattle.buffer.specs.Numbers.{byteAt, twoAt, fourAt}
 use Rattle.fields.specs.Layout.{fieldsOf}
@@ -38,7 +37,8 @@ use Rattle.meaning.specs.declared.Meaning.the-variants as meaning
 use Rattle.form.specs.Form.{stateOf, groundOf, heldOf, shapeOf}
 use Rattle.form.specs.Inverse.{held-looser}
 use Rattle.meaning.specs.Reading.{badNumber, meaningIf, shaped, meaningOf}
-use Rattle.meaning.specs.Inverse.{ToxicFrom, FlammableFrom, toxic-from, flammable-from, same-entry, same-tenths}
+use Rattle.meaning.specs.States.{same-entry, same-tenths}
+use Rattle.meaning.specs.Inverse.{ToxicFrom, FlammableFrom, toxic-from, flammable-from}
 use Rattle.card.specs.declared.Class.{Class}
 use Rattle.card.specs.declared.Class.the-variants as class
 use Rattle.card.specs.declared.Answer.{Answer}

@@ -6,22 +6,17 @@ use mathlib.Core.Bool.{Bool, true, false, not}
 use mathlib.Core.List.{List, [], _∷_}
 use lib.Dec.{eqb, ltb}
 use lib.ListN.{drop}
-use borrow.Author.Tests.{not-false}
+use borrow.Author.Tests.{not-false, eq-eqb, ne-eqb}
 use Rattle.search.specs.Rising.{both}
 use Rattle.search.specs.Laws.{clash}
 use Rattle.search.specs.Places.{either, among}
 use Rattle.units.specs.declared.Reading.{Reading}
 use Rattle.units.specs.declared.Reading.the-variants as reading
 use Rattle.exhibits.specs.declared.Toxic.{Toxic}
-use Rattle.exhibits.specs.Printed.{solution}
-use Rattle.exhibits.specs.Exhibits.{toxicOf}
-use Rattle.exhibits.specs.Solutions.{badConcentration, solutionOf}
-use Rattle.exhibits.specs.SolutionLaws.{Says, a-line, out-of-range, not-listed, says}
+use Rattle.exhibits.specs.Solutions.{badPercent}
 use Rattle.dispersion.specs.Tables.{readingOf}
 use Rattle.blast.specs.Blast.{isFlammable, blastReading}
 use Rattle.scenario.specs.declared.State.{State}
-use Rattle.scenario.specs.declared.Tenths.{Tenths}
-use Rattle.scenario.specs.declared.Tenths.the-variants.{Temperature, Concentration}
 use Rattle.scenario.specs.declared.ToxicCard.{ToxicCard}
 use Rattle.scenario.specs.declared.Planned.{Planned}
 use Rattle.scenario.specs.declared.Planned.the-variants as planned
@@ -44,15 +39,16 @@ use Rattle.meaning.specs.declared.Bounds.{Bounds}
 use Rattle.meaning.specs.declared.Meaning.{Meaning}
 use Rattle.form.specs.Form.{stateOf, groundOf, heldOf, heatFits, shapedHeat, shapedHeld, shapedState, shapedBlank, shapeOf, blank}
 use Rattle.meaning.specs.Reading.{badNumber, badPounds, badArea, badWall, badHeat, signed, tenthsOf, badTenths, substanceOf, isOutOfRange, boundsIf, boundsOf, toxicBounded, isListed, meaningIf, toxicMeaning, flammableOf, shaped, meaningOf}
+use Rattle.meaning.specs.States.{by-state}
 use Rattle.form.specs.Inverse.{Stands, toxic-shape, flammable-shape}
 use Rattle.form.specs.Same.{Blank, flammable-blank}
 use Rattle.card.specs.declared.Answered.{Answered}
 use Rattle.card.specs.declared.Answered.the-variants as answered
 use Rattle.card.specs.Answers.{readToxic, plannedAnswer, readFlammable, answerFor, answerOf}
-use Rattle.conditions.specs.Conditions.{anyOf, inSolution, ofGas, ofLiquid, ofTable13, ofSolution, badCas, badTemperature, badStrength, mismatched, toxicCard, groundIn, beyondPlan, beyond, ofCard}
+use Rattle.conditions.specs.Conditions.{anyOf, inSolution, ofGas, ofLiquid, ofTable13, ofSolution, badCas, badTemperature, badConcentration, mismatched, toxicCard, groundIn, beyondPlan, beyond, ofCard}
 use Rattle.conditions.specs.First.{Verdict, passed, refused, pick, firstOf}
 use Rattle.conditions.specs.Form.{either-last, isRefused, form-is}
-use Rattle.conditions.specs.Substances.{Seen, a-gas, a-liquid, neither, seen}
+use Rattle.conditions.specs.Substances.{pure-listed, pure-in-range, solution-listed, solution-range}
 use Rattle.conditions.specs.Mismatch.{isMismatch, mismatch-none, mismatch-is}
 use Rattle.conditions.specs.Vessel.{cardFrom, card-made, ground-made}
 use Rattle.conditions.specs.Beyond.{isBeyond, reading-beyond, blast-beyond}
@@ -135,69 +131,29 @@ unfolding beyond
 beyond-flammable card e =
     ap (λ k. either (both (eqb k 1) (beyondPlan (planOf (toxicCard card)) (groundIn (byteAt card 2)))) (both (eqb k 2) (ltb 2_000_000 (fieldsOf card .pounds)))) e
 
--- what the exhibits list, and whether a concentration is out of range, by byte 1
-pure-listed : (card : List ℕ) → either (ofGas card) (ofLiquid card) ≡ isListed (toxicOf (fieldsOf card .cas))
-unfolding ofGas ofLiquid
-pure-listed card = go (toxicOf (fieldsOf card .cas)) (seen (fieldsOf card .cas))
-  where
-    go : (x : Toxic) → Seen (fieldsOf card .cas) x → either (ofGas card) (ofLiquid card) ≡ isListed x
-    go _ (a-gas g p q) = ap₂ either p q
-    go _ (a-liquid l p q c) = ap₂ either p q
-    go _ (neither p q) = ap₂ either p q
-
-pure-in-range : (cas : ℕ) → isOutOfRange (toxicOf cas) ≡ false
-pure-in-range cas = go (toxicOf cas) (seen cas)
-  where
-    go : (x : Toxic) → Seen cas x → isOutOfRange x ≡ false
-    go _ (a-gas g p q) = refl
-    go _ (a-liquid l p q c) = refl
-    go _ (neither p q) = refl
-
-solution-listed : (card : List ℕ) → ofSolution card ≡ isListed (solutionOf (fieldsOf card .cas) (fieldsOf card .heat))
-unfolding ofSolution
-solution-listed card = go (solutionOf (fieldsOf card .cas) (fieldsOf card .heat)) (says (fieldsOf card .cas) (fieldsOf card .heat))
-  where
-    go : (x : Toxic) → Says (fieldsOf card .cas) (fieldsOf card .heat) x → ofSolution card ≡ isListed x
-    go _ (a-line (solution c t e a d p) l q r) = l
-    go _ (out-of-range l q) = l
-    go _ (not-listed l) = l
-
-solution-range : (cas tenths : ℕ) → isListed (solutionOf cas tenths) ≡ true → isOutOfRange (solutionOf cas tenths) ≡ badConcentration cas tenths
-solution-range cas tenths h = go (solutionOf cas tenths) (says cas tenths) h
-  where
-    go : (x : Toxic) → Says cas tenths x → isListed x ≡ true → isOutOfRange x ≡ badConcentration cas tenths
-    go _ (a-line (solution c t e a d p) l q r) h = sym q
-    go _ (out-of-range l q) h = sym q
-    go _ (not-listed l) h = clash (cc)
-
+-- 7, 15 and 16 of a toxic card, by byte 1
 module _ (card : List ℕ) where
-  -- 7 of a toxic card
   listed-is : byteAt card 0 ≡ 1 → badCas card ≡ not (isListed (substanceOf (fieldsOf card)))
-  unfolding substanceOf fieldsOf
-  listed-is e = cas-toxic card e ∙ go (eqb (byteAt card 1) 5)
-    where
-      go : (b : Bool) → either (both (not b) (not (either (ofGas card) (ofLiquid card)))) (both b (not (ofSolution card))) ≡ not (isListed (elim b as (λ _. Toxic) [ true ↦ solutionOf (fieldsOf card .cas) (fieldsOf card .heat) | false ↦ toxicOf (fieldsOf card .cas) ]))
-      go true = ap not (solution-listed card)
-      go false = either-last (not (either (ofGas card) (ofLiquid card))) ∙ ap not (pure-listed card)
+  unfolding fieldsOf
+  listed-is e =
+      cas-toxic card e
+      ∙ by-state (fieldsOf card) (λ x t. either (both (not (inSolution card)) (not (either (ofGas card) (ofLiquid card)))) (both (inSolution card) (not (ofSolution card))) ≡ not (isListed x))
+      (λ s. rw (eq-eqb (byteAt card 1) 5 s, both, either) (ap not (solution-listed card)))
+      (λ n. rw (ne-eqb (byteAt card 1) 5 n, both, either) (either-last (not (either (ofGas card) (ofLiquid card))) ∙ ap not (pure-listed card)))
 
-  -- 15
   heat-is : badTenths (tenthsOf (fieldsOf card)) ≡ badTemperature card
-  unfolding tenthsOf fieldsOf
-  heat-is = go (eqb (byteAt card 1) 5)
-    where
-      go : (b : Bool) → badTenths (elim b as (λ _. Tenths) [ true ↦ Concentration (fieldsOf card .heat) | false ↦ Temperature (signed (fieldsOf card .heat)) ]) ≡ both (not b) (badHeat (signed (fieldsOf card .heat)))
-      go true = refl
-      go false = refl
+  unfolding fieldsOf
+  heat-is =
+      by-state (fieldsOf card) (λ x t. badTenths t ≡ badTemperature card)
+      (λ s. rw (eq-eqb (byteAt card 1) 5 s, both))
+      (λ n. rw (ne-eqb (byteAt card 1) 5 n, both))
 
-  -- 16
-  strength-is : isListed (substanceOf (fieldsOf card)) ≡ true → isOutOfRange (substanceOf (fieldsOf card)) ≡ badStrength card
-  unfolding substanceOf fieldsOf
-  strength-is h = go (eqb (byteAt card 1) 5) h
-    where
-      go : (b : Bool) → isListed (elim b as (λ _. Toxic) [ true ↦ solutionOf (fieldsOf card .cas) (fieldsOf card .heat) | false ↦ toxicOf (fieldsOf card .cas) ]) ≡ true
-          → isOutOfRange (elim b as (λ _. Toxic) [ true ↦ solutionOf (fieldsOf card .cas) (fieldsOf card .heat) | false ↦ toxicOf (fieldsOf card .cas) ]) ≡ both b (badConcentration (fieldsOf card .cas) (fieldsOf card .heat))
-      go true h = solution-range (fieldsOf card .cas) (fieldsOf card .heat) h
-      go false h = pure-in-range (fieldsOf card .cas)
+  concentration-is : isListed (substanceOf (fieldsOf card)) ≡ true → isOutOfRange (substanceOf (fieldsOf card)) ≡ badConcentration card
+  unfolding fieldsOf
+  concentration-is =
+      by-state (fieldsOf card) (λ x t. isListed x ≡ true → isOutOfRange x ≡ badConcentration card)
+      (λ s h. rw (eq-eqb (byteAt card 1) 5 s, both) (solution-range (fieldsOf card .cas) (fieldsOf card .heat) h))
+      (λ n h. rw (ne-eqb (byteAt card 1) 5 n, both) (pure-in-range (fieldsOf card .cas)))
 
 -- ---- a toxic card
 
@@ -225,7 +181,7 @@ toxic-verdict card n standing e =
     (λ _. bounds-line n f x standing (badArea (f .containment) (f .area)) _ _ _ refl
     (λ _. bounds-line n f x standing (badWall (f .wall)) _ _ _ refl
     (λ _. bounds-line n f x standing (badTenths (tenthsOf f)) _ _ _ (heat-is card)
-    (λ _. bounds-line n f x standing (isOutOfRange x) _ _ _ (strength-is card (not-false (isListed x) l))
+    (λ _. bounds-line n f x standing (isOutOfRange x) _ _ _ (concentration-is card (not-false (isListed x) l))
     (λ r. plan-verdict n (planOf made) made
     ∙ ap₂ (λ m b. pick m refusal.Mismatch (pick b refusal.Beyond passed)) (sym (mismatch-is card standing from (not-false (isListed x) l) r)) (sym (beyond-toxic card standing from)))))))))
 
@@ -244,9 +200,9 @@ heat-blank : (card : List ℕ) → Blank (fieldsOf card) → badTemperature card
 unfolding badHeat signed fieldsOf
 heat-blank card b = ap₂ (λ s h. both (not (eqb s 5)) (badHeat (signed h))) (b .state) (b .heat)
 
-strength-blank : (card : List ℕ) → Blank (fieldsOf card) → badStrength card ≡ false
+concentration-blank : (card : List ℕ) → Blank (fieldsOf card) → badConcentration card ≡ false
 unfolding fieldsOf
-strength-blank card b = ap (λ s. both (eqb s 5) (badConcentration (fieldsOf card .cas) (fieldsOf card .heat))) (b .state)
+concentration-blank card b = ap (λ s. both (eqb s 5) (badPercent (fieldsOf card .cas) (fieldsOf card .heat))) (b .state)
 
 mismatch-blank : (card : List ℕ) → Blank (fieldsOf card) → mismatched card ≡ false
 unfolding among fieldsOf
@@ -266,7 +222,7 @@ flammable-verdict card n e =
     unmet (badArea (byteAt card 3) (f .area)) refusal.Area (area-blank card b)
     (unmet (badWall (f .wall)) refusal.Wall (wall-blank card b)
     (unmet (badTemperature card) refusal.Temperature (heat-blank card b)
-    (unmet (badStrength card) refusal.Concentration (strength-blank card b)
+    (unmet (badConcentration card) refusal.Concentration (concentration-blank card b)
     (unmet (mismatched card) refusal.Mismatch (mismatch-blank card b)
     (go (blastReading (f .cas) (f .pounds))
     ∙ ap (λ t. pick t refusal.Beyond passed) (sym (beyond-flammable card kind ∙ blast-beyond (f .cas) (f .pounds) (not-false (isFlammable (f .cas)) l)))))))))))

@@ -16,7 +16,7 @@ use Rattle.exhibits.specs.PrintedB1.{b1}
 use Rattle.exhibits.specs.PrintedB2.{b2}
 use Rattle.exhibits.specs.PrintedB3.{b3}
 use Rattle.exhibits.specs.Exhibits.{gasCas, liquidCas, factorsOf}
-use Rattle.exhibits.specs.Solutions.{solutionCas, badConcentration}
+use Rattle.exhibits.specs.Solutions.{solutionCas, badPercent}
 use Rattle.dispersion.specs.declared.Ground.{Ground}
 use Rattle.dispersion.specs.declared.Ground.the-variants.{Rural, Urban}
 use Rattle.rules.specs.Rules.{distance, inUse, larger, closest, closestColumn, fromColumn, thousandths, lastOf, past, markOf, mileLimit}
@@ -127,8 +127,8 @@ abbrev pub badTemperature : List ℕ → Bool
 badTemperature card = both (not (inSolution card)) (badHeat (signed (fieldsOf card .heat)))
 
 -- 16: "concentration zero or above the highest printed"
-abbrev pub badStrength : List ℕ → Bool
-badStrength card = both (inSolution card) (badConcentration (fieldsOf card .cas) (fieldsOf card .heat))
+abbrev pub badConcentration : List ℕ → Bool
+badConcentration card = both (inSolution card) (badPercent (fieldsOf card .cas) (fieldsOf card .heat))
 
 -- the column of Exhibit B-4 that a temperature reads: "the closest column of B-4, the higher at a midpoint; 25 °C counts as a
 -- column .., and lower temperatures read it"
@@ -268,7 +268,7 @@ ofCard card last =
     ∷ condition refusal.Area (badArea (byteAt card 3) (fieldsOf card .area))
     ∷ condition refusal.Wall (badWall (fieldsOf card .wall))
     ∷ condition refusal.Temperature (badTemperature card)
-    ∷ condition refusal.Concentration (badStrength card)
+    ∷ condition refusal.Concentration (badConcentration card)
     ∷ condition refusal.Mismatch (mismatched card)
     ∷ condition refusal.Beyond (beyond card)
     ∷ []

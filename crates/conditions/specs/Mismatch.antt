@@ -10,7 +10,7 @@ use lib.Dec.{eqb}
 use lib.ListN.{getD}
 use lib.IntN.{ℤ, pos, negsuc}
 use lib.Signed.{ltZ}
-use borrow.Author.Tests.{eqb-true, eqb-false, ltb-false}
+use borrow.Author.Tests.{eqb-true, ltb-false}
 use Rattle.search.specs.Rising.{both}
 use Rattle.search.specs.Laws.{clash, both-true}
 use Rattle.search.specs.Places.{either, among}
@@ -50,11 +50,12 @@ use Rattle.form.specs.declared.StateByte.the-variants as stateByte
 use Rattle.form.specs.declared.Held.the-variants as held
 use Rattle.form.specs.declared.Standing.{Standing}
 use Rattle.form.specs.Form.{stateOf, heldOf}
-use Rattle.meaning.specs.Reading.{isListed, signed, tenthsOf, substanceOf, isOutOfRange}
+use Rattle.meaning.specs.Reading.{isListed, signed, substanceOf, isOutOfRange}
+use Rattle.meaning.specs.States.{by-state}
 use Rattle.form.specs.Inverse.{Stands}
 use Rattle.conditions.specs.Conditions.{anyOf, ofGas, ofLiquid, columnRead, cellRead, withoutData, aboveFifty, heldIn, mismatched}
 use Rattle.conditions.specs.Form.{state-is, no-state}
-use Rattle.conditions.specs.Vessel.{cardFrom, held-in}
+use Rattle.conditions.specs.Vessel.{cardWith, cardFrom, held-in}
 use Rattle.conditions.specs.Substances.{Seen, a-gas, a-liquid, neither, seen}
 
 -- the column that is read is the closest, at every tenth of a degree up to 50.0
@@ -263,48 +264,35 @@ module _ (card : List ℕ) (standing : Standing) (from : Stands (fieldsOf card) 
   unfolding fieldsOf
   dike-is = dike-byte (byteAt card 3) (fourAt card 12) (twoAt card 16) (standing .containment) (from .held)
 
+  abbrev made : Toxic → Tenths → ToxicCard
+  made = cardWith (fieldsOf card) standing
+
+  -- the cell that is read, where one is
+  abbrev noCell : Bool
+  noCell = both (not (aboveFifty card)) (withoutData (cellRead card))
+
   -- a card in states 1 to 4, of what B-1 and B-2 say
-  substance : (made : ToxicCard) → made .containment ≡ standing .containment → made .tenths ≡ Temperature (signed (fieldsOf card .heat)) → made .state ≡ standing .state
-      → (byteAt card 1 ≡ 5 → ⊥) → (x : Toxic) → Seen (fieldsOf card .cas) x → isListed x ≡ true → mismatched card ≡ isMismatch (planFor x made)
+  pure : (byteAt card 1 ≡ 5 → ⊥) → (x : Toxic) → Seen (fieldsOf card .cas) x → isListed x ≡ true → mismatched card ≡ isMismatch (planFor x (made x (Temperature (signed (fieldsOf card .heat)))))
   unfolding mismatched ofGas ofLiquid fieldsOf
-  substance made c t s n (OfGas g) (a-gas _ p q) h =
-      ap₂ (λ a b. unfit a b (byteAt card 1) (eqb (byteAt card 3) 1) (both (not (aboveFifty card)) (withoutData (cellRead card)))) p q
-      ∙ (gas-unfit (byteAt card 1) (standing .state) (eqb (byteAt card 3) 1) (both (not (aboveFifty card)) (withoutData (cellRead card))) made g n (from .state) (dike-is ∙ ap isDike (sym c))
-      ∙ ap (λ k. isMismatch (gasPlan k made g)) (sym s))
-  substance made c t s n (OfLiquid l) (a-liquid _ p q k) h =
-      ap₂ (λ a b. unfit a b (byteAt card 1) (eqb (byteAt card 3) 1) (both (not (aboveFifty card)) (withoutData (cellRead card)))) p q
-      ∙ (liquid-unfit (byteAt card 1) (standing .state) (eqb (byteAt card 3) 1) (both (not (aboveFifty card)) (withoutData (cellRead card))) made l n (from .state)
-      (ap (λ (x : Corrections). both (not (aboveFifty card)) (withoutData (getD (cellsIn x) (columnRead (signed (fieldsOf card .heat))) NoData))) (sym k)
-      ∙ (sym (factors-missing l (signed (fieldsOf card .heat))) ∙ ap (λ y. isMissing (tabled.factorsOf l (columnIn y))) (sym t)))
-      ∙ ap (λ y. isMismatch (liquidPlan y made l)) (sym s))
-  substance made c t s n NotListed (neither p q) h = clash (cc)
+  pure n (OfGas g) (a-gas _ p q) h =
+      ap₂ (λ a b. unfit a b (byteAt card 1) (eqb (byteAt card 3) 1) noCell) p q
+      ∙ gas-unfit (byteAt card 1) (standing .state) (eqb (byteAt card 3) 1) noCell (made (OfGas g) (Temperature (signed (fieldsOf card .heat)))) g n (from .state) dike-is
+  pure n (OfLiquid l) (a-liquid _ p q c) h =
+      ap₂ (λ a b. unfit a b (byteAt card 1) (eqb (byteAt card 3) 1) noCell) p q
+      ∙ liquid-unfit (byteAt card 1) (standing .state) (eqb (byteAt card 3) 1) noCell (made (OfLiquid l) (Temperature (signed (fieldsOf card .heat)))) l n (from .state)
+      (ap (λ (x : Corrections). both (not (aboveFifty card)) (withoutData (getD (cellsIn x) (columnRead (signed (fieldsOf card .heat))) NoData))) (sym c) ∙ sym (factors-missing l (signed (fieldsOf card .heat))))
+  pure n NotListed (neither p q) h = clash (cc)
 
   -- a solution, of what B-3 says
-  solved : (made : ToxicCard) → byteAt card 1 ≡ 5 → (x : Toxic) → Says (fieldsOf card .cas) (fieldsOf card .heat) x → isListed x ≡ true → isOutOfRange x ≡ false → mismatched card ≡ isMismatch (planFor x made)
+  solved : byteAt card 1 ≡ 5 → (x : Toxic) → Says (fieldsOf card .cas) (fieldsOf card .heat) x → (t : Tenths) → isListed x ≡ true → isOutOfRange x ≡ false → mismatched card ≡ isMismatch (planFor x (made x t))
   unfolding among
-  solved made e _ (a-line (solution c t n a d p) _ _ _) h r = mismatch-none card 5 e refl
-  solved made e _ (out-of-range _ _) h r = clash (cc)
-  solved made e _ (not-listed _) h r = clash (cc)
-
-  -- the card by whether it is a solution
-  abbrev made : Bool → ToxicCard
-  made b =
-      record {
-        cas = fieldsOf card .cas;
-        entry = elim b as (λ _. Toxic) [ true ↦ solutionOf (fieldsOf card .cas) (fieldsOf card .heat) | false ↦ toxicOf (fieldsOf card .cas) ];
-        state = standing .state;
-        ground = standing .ground;
-        quantity = record { 0 = fieldsOf card .pounds };
-        tenths = elim b as (λ _. Tenths) [ true ↦ Concentration (fieldsOf card .heat) | false ↦ Temperature (signed (fieldsOf card .heat)) ];
-        containment = standing .containment;
-      }
+  solved e _ (a-line (solution c n i a d p) _ _ _) t h r = mismatch-none card 5 e refl
+  solved e _ (out-of-range _ _) t h r = clash (cc)
+  solved e _ (not-listed _) t h r = clash (cc)
 
   pub mismatch-is : isListed (substanceOf (fieldsOf card)) ≡ true → isOutOfRange (substanceOf (fieldsOf card)) ≡ false → mismatched card ≡ isMismatch (planOf (cardFrom (fieldsOf card) standing))
-  unfolding planOf substanceOf tenthsOf fieldsOf
-  mismatch-is h r = go (eqb (byteAt card 1) 5) refl h r
-    where
-      go : (b : Bool) → eqb (byteAt card 1) 5 ≡ b → isListed (made b .entry) ≡ true → isOutOfRange (made b .entry) ≡ false → mismatched card ≡ isMismatch (planFor (made b .entry) (made b))
-      go true e h r =
-          solved (made true) (eqb-true (byteAt card 1) 5 e) (solutionOf (fieldsOf card .cas) (fieldsOf card .heat)) (says (fieldsOf card .cas) (fieldsOf card .heat)) h r
-      go false e h r =
-          substance (made false) refl refl refl (eqb-false (byteAt card 1) 5 e) (toxicOf (fieldsOf card .cas)) (seen (fieldsOf card .cas)) h
+  unfolding planOf fieldsOf
+  mismatch-is =
+      by-state (fieldsOf card) (λ x t. isListed x ≡ true → isOutOfRange x ≡ false → mismatched card ≡ isMismatch (planFor x (made x t)))
+      (λ e h r. solved e (solutionOf (fieldsOf card .cas) (fieldsOf card .heat)) (says (fieldsOf card .cas) (fieldsOf card .heat)) (Concentration (fieldsOf card .heat)) h r)
+      (λ n h r. pure n (toxicOf (fieldsOf card .cas)) (seen (fieldsOf card .cas)) h)

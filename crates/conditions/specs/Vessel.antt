@@ -12,6 +12,8 @@ use Rattle.release.specs.declared.Containment.{Containment}
 use Rattle.release.specs.declared.Containment.the-variants.{Open, Dike, Building}
 use Rattle.scenario.specs.declared.State.{State}
 use Rattle.scenario.specs.declared.State.the-variants.{Gas, Pressurized, Refrigerated, Liquid, Solution}
+use Rattle.exhibits.specs.declared.Toxic.{Toxic}
+use Rattle.scenario.specs.declared.Tenths.{Tenths}
 use Rattle.scenario.specs.declared.ToxicCard.{ToxicCard}
 use Rattle.buffer.specs.Numbers.{byteAt}
 use Rattle.fields.specs.declared.Fields.{Fields}
@@ -29,18 +31,21 @@ use Rattle.meaning.specs.Reading.{tenthsOf, substanceOf}
 use Rattle.conditions.specs.Conditions.{stateIn, groundIn, heldIn, toxicCard}
 use Rattle.conditions.specs.Form.{state-is}
 
--- the meaning of a toxic card's fields, with its substance
-abbrev pub cardFrom : Fields → Standing → ToxicCard
-cardFrom f standing =
+-- the meaning of a toxic card's fields, with its substance and its temperature or concentration
+abbrev pub cardWith : Fields → Standing → Toxic → Tenths → ToxicCard
+cardWith f standing entry tenths =
     record {
       cas = f .cas;
-      entry = substanceOf f;
+      entry = entry;
       state = standing .state;
       ground = standing .ground;
       quantity = record { 0 = f .pounds };
-      tenths = tenthsOf f;
+      tenths = tenths;
       containment = standing .containment;
     }
+
+abbrev pub cardFrom : Fields → Standing → ToxicCard
+cardFrom f standing = cardWith f standing (substanceOf f) (tenthsOf f)
 
 held-is : {a b : Containment} → held.Is a ≡ held.Is b → a ≡ b
 held-is e = cc

@@ -6,7 +6,7 @@ use mathlib.Core.Path.{_≡_, _∙_, refl, sym, ap, ap₂}
 use mathlib.Core.Bool.{Bool, true, false}
 use mathlib.Core.List.{List, [], _∷_, map}
 use lib.Dec.{leb, ltb, eqb}
-use borrow.Author.Tests.{leb-true, leb-false, le-leb, lt-leb, le-ltb, eq-eqb, ne-eqb}
+use borrow.Author.Tests.{leb-true, le-leb, lt-leb, le-ltb, eq-eqb, ne-eqb}
 use Rattle.search.specs.Laws.{clash, both-true}
 use Rattle.search.specs.Places.{either, among, every}
 use Rattle.search.specs.PlaceLaws.{among-each}
@@ -17,7 +17,7 @@ use Rattle.exhibits.specs.declared.Toxic.{Toxic}
 use Rattle.exhibits.specs.declared.Toxic.the-variants.{OfGas, OfLiquid, OfSolution, OutOfRange, NotListed}
 use Rattle.exhibits.specs.Printed.{SolutionLine, solution}
 use Rattle.exhibits.specs.PrintedB3.{b3}
-use Rattle.exhibits.specs.Solutions.{solutionCas, percentOf, linesOf, Found, none, found, lower, lowest, highest, badConcentration, lineRead, inRange, solutionOf}
+use Rattle.exhibits.specs.Solutions.{solutionCas, percentOf, linesOf, Found, none, found, lower, lowest, highest, badPercent, lineRead, unlessOut, solutionOf}
 use Rattle.exhibits.specs.Lines.{kindOf, lineOf, solutionFrom, readAt}
 use Rattle.exhibits.specs.SolutionLaws.{Rightly, lowest-right, under-highest}
 use Rattle.exhibits.proofs.Back.{solution-back, none-back}
@@ -84,30 +84,30 @@ no-line cas tenths keys all m = go (among cas (map solutionCas b3)) refl
 
 -- a concentration of zero is out of range
 abbrev unlessZero : Toxic → Bool → Toxic
-unlessZero (OfGas g) zero = inRange zero (OfGas g)
-unlessZero (OfLiquid l) zero = inRange zero (OfLiquid l)
-unlessZero (OfSolution s) zero = inRange zero (OfSolution s)
+unlessZero (OfGas g) zero = unlessOut zero (OfGas g)
+unlessZero (OfLiquid l) zero = unlessOut zero (OfLiquid l)
+unlessZero (OfSolution s) zero = unlessOut zero (OfSolution s)
 unlessZero OutOfRange zero = OutOfRange
 unlessZero NotListed zero = NotListed
 
 -- what is read is what the line tells, unless the concentration is zero
 read-is : (cas tenths : ℕ) → solutionOf cas tenths ≡ unlessZero (readAt cas tenths) (eqb tenths 0)
-unfolding solutionOf readAt badConcentration
+unfolding solutionOf readAt badPercent
 read-is cas tenths = go (among cas (map solutionCas b3)) (eqb tenths 0) (lowest tenths (linesOf cas b3)) (lowest-right tenths (linesOf cas b3))
   where
     go : (l zero : Bool) (x : Found) → Rightly tenths (linesOf cas b3) x
-        → (elim l as (λ _. Toxic) [ true ↦ inRange (either zero (ltb (highest (linesOf cas b3)) tenths)) (lineRead x) | false ↦ NotListed ])
+        → (elim l as (λ _. Toxic) [ true ↦ unlessOut (either zero (ltb (highest (linesOf cas b3)) tenths)) (lineRead x) | false ↦ NotListed ])
         ≡ unlessZero (elim l as (λ _. Toxic) [ true ↦ lineRead x | false ↦ NotListed ]) zero
     go false zero x r = refl
     go true true none r = refl
     go true true (found (solution c t e a d p)) r = refl
     go true false none r = one (ltb (highest (linesOf cas b3)) tenths)
       where
-        one : (b : Bool) → inRange b OutOfRange ≡ OutOfRange
+        one : (b : Bool) → unlessOut b OutOfRange ≡ OutOfRange
         one true = refl
         one false = refl
     go true false (found (solution c t e a d p)) r =
-        rw (le-ltb (highest (linesOf cas b3)) tenths (omega (arith, r .not-below, under-highest (linesOf cas b3) (r .stands))), inRange)
+        rw (le-ltb (highest (linesOf cas b3)) tenths (omega (arith, r .not-below, under-highest (linesOf cas b3) (r .stands))), unlessOut)
 
 -- B-3 knows no pure gas or liquid
 solved : (cas tenths : ℕ) → (kindOf (readAt cas tenths) ≡ 0 → ⊥) → 3 ≤ kindOf (readAt cas tenths)

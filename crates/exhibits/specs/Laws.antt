@@ -2,7 +2,7 @@
 -- Assumes nothing.
 use Prim.Native.Nat.{ℕ, _≤_, _<_}
 use mathlib.Core.Path.{_≡_, refl, ap, sym, _∙_}
-use mathlib.Core.List.{List, _++_, map}
+use mathlib.Core.List.{_++_, map}
 use mathlib.Core.Bool.{Bool, true, false}
 use lib.Dec.{leb, ltb}
 use borrow.Author.Tests.{leb-true, ltb-true}

@@ -3,19 +3,19 @@
 -- Assumes nothing.
 use Prim.Native.Nat.{ℕ, max, _≤_, _<_}
 use native.Mathlib.Omega.{arith}
-use mathlib.Core.Path.{_≡_, _∙_, refl, sym, ap, subst}
+use mathlib.Core.Path.{_≡_, refl, sym}
 use mathlib.Core.Bool.{Bool, true, false}
 use mathlib.Core.List.{List, [], _∷_, map}
 use lib.Dec.{leb, ltb, eqb}
 use borrow.Author.Tests.{leb-true, leb-false, ltb-true, ltb-false, eqb-true, eqb-false, eq-eqb}
-use Rattle.search.specs.Laws.{clash, both-true}
-use Rattle.search.specs.Places.{either, among, every}
+use Rattle.search.specs.Laws.{both-true}
+use Rattle.search.specs.Places.{among, every}
 use Rattle.search.specs.PlaceLaws.{neither, among-each}
 use Rattle.exhibits.specs.declared.Toxic.{Toxic}
 use Rattle.exhibits.specs.declared.Toxic.the-variants.{OutOfRange, NotListed}
-use Rattle.exhibits.specs.Printed.{SolutionLine, solution}
+use Rattle.exhibits.specs.Printed.{SolutionLine}
 use Rattle.exhibits.specs.PrintedB3.{b3}
-use Rattle.exhibits.specs.Solutions.{solutionCas, percentOf, solutionIn, linesOf, Found, none, found, lower, lowest, highest, badConcentration, lineRead, inRange, solutionOf}
+use Rattle.exhibits.specs.Solutions.{solutionCas, percentOf, solutionIn, linesOf, Found, none, found, lower, lowest, highest, badPercent, lineRead, unlessOut, solutionOf}
 
 -- a line stands in a list
 pub data In (line : SolutionLine) : List SolutionLine → Type 0 where
@@ -32,9 +32,9 @@ pub record Lowest (cas tenths : ℕ) (line : SolutionLine) : Type 0 where
 
 -- what Exhibit B-3 says of a CAS number and a concentration, and where it is read
 pub data Says (cas tenths : ℕ) : Toxic → Type 0 where
-  a-line : (line : SolutionLine) → among cas (map solutionCas b3) ≡ true → badConcentration cas tenths ≡ false
+  a-line : (line : SolutionLine) → among cas (map solutionCas b3) ≡ true → badPercent cas tenths ≡ false
       → Lowest cas tenths line → Says cas tenths (solutionIn line)
-  out-of-range : among cas (map solutionCas b3) ≡ true → badConcentration cas tenths ≡ true → Says cas tenths OutOfRange
+  out-of-range : among cas (map solutionCas b3) ≡ true → badPercent cas tenths ≡ true → Says cas tenths OutOfRange
   not-listed : among cas (map solutionCas b3) ≡ false → Says cas tenths NotListed
 
 -- ---- the lines of a substance
@@ -145,10 +145,10 @@ under-highest (line ∷ rest) (later _ _ j) = omega (arith, under-highest rest j
 -- ---- what is read
 
 pub says : (cas tenths : ℕ) → Says cas tenths (solutionOf cas tenths)
-unfolding solutionOf badConcentration
-says cas tenths = go (among cas (map solutionCas b3)) (badConcentration cas tenths) refl refl
+unfolding solutionOf badPercent
+says cas tenths = go (among cas (map solutionCas b3)) (badPercent cas tenths) refl refl
   where
-    line-read : (x : Found) → among cas (map solutionCas b3) ≡ true → badConcentration cas tenths ≡ false → Rightly tenths (linesOf cas b3) x → Says cas tenths (lineRead x)
+    line-read : (x : Found) → among cas (map solutionCas b3) ≡ true → badPercent cas tenths ≡ false → Rightly tenths (linesOf cas b3) x → Says cas tenths (lineRead x)
     line-read none p q r =
         let in-range = neither (eqb tenths 0) (ltb (highest (linesOf cas b3)) tenths) q in
         let some : tenths ≡ 0 → ⊥ = eqb-false tenths 0 (in-range .0) in
@@ -165,8 +165,8 @@ says cas tenths = go (among cas (map solutionCas b3)) (badConcentration cas tent
           lowest = λ other i e h. r .least other (all-lines cas b3 i e) h;
         })
 
-    go : (l b : Bool) → among cas (map solutionCas b3) ≡ l → badConcentration cas tenths ≡ b
-        → Says cas tenths (elim l as (λ _. Toxic) [ true ↦ inRange b (lineRead (lowest tenths (linesOf cas b3))) | false ↦ NotListed ])
+    go : (l b : Bool) → among cas (map solutionCas b3) ≡ l → badPercent cas tenths ≡ b
+        → Says cas tenths (elim l as (λ _. Toxic) [ true ↦ unlessOut b (lineRead (lowest tenths (linesOf cas b3))) | false ↦ NotListed ])
     go true true p q = out-of-range p q
     go true false p q = line-read (lowest tenths (linesOf cas b3)) p q (lowest-right tenths (linesOf cas b3))
     go false b p q = not-listed p

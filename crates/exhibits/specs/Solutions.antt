@@ -49,22 +49,23 @@ highest [] = 0
 highest (line ∷ rest) = max (percentOf line) (highest rest)
 
 -- 16: "concentration zero or above the highest printed"
-unfoldable pub badConcentration : ℕ → ℕ → Bool
-badConcentration cas tenths = either (eqb tenths 0) (ltb (highest (linesOf cas b3)) tenths)
+unfoldable pub badPercent : ℕ → ℕ → Bool
+badPercent cas tenths = either (eqb tenths 0) (ltb (highest (linesOf cas b3)) tenths)
 
 abbrev pub lineRead : Found → Toxic
 lineRead none = OutOfRange
 lineRead (found line) = solutionIn line
 
-abbrev pub inRange : Bool → Toxic → Toxic
-inRange true t = OutOfRange
-inRange false t = t
+-- unless the concentration is out of range
+abbrev pub unlessOut : Bool → Toxic → Toxic
+unlessOut true t = OutOfRange
+unlessOut false t = t
 
 -- "State 5 is a solution of a B-3 substance": what is read at its concentration, that the substance is not listed, or that the
 -- concentration is out of range
 unfoldable pub solutionOf : ℕ → ℕ → Toxic
 solutionOf cas tenths =
     elim (among cas (map solutionCas b3)) [
-      | true ↦ inRange (badConcentration cas tenths) (lineRead (lowest tenths (linesOf cas b3)))
+      | true ↦ unlessOut (badPercent cas tenths) (lineRead (lowest tenths (linesOf cas b3)))
       | false ↦ NotListed
     ]

@@ -6,7 +6,7 @@ use native.Mathlib.Omega.{arith}
 use native.Mathlib.Nat.{zero-add}
 use mathlib.Core.Path.{_≡_, _∙_, refl, ap, ap₂, sym, subst}
 use mathlib.Core.Bool.{Bool, true, false, not}
-use lib.Dec.{leb, ltb, eqb}
+use lib.Dec.{leb, ltb}
 use lib.IntN.{ℤ, pos, negsuc, _-ℤ_}
 use lib.Signed.{ltZ}
 use mir.Syntax.{w16}
@@ -33,6 +33,7 @@ use Rattle.meaning.specs.declared.Bounds.the-variants as bounds
 use Rattle.meaning.specs.declared.Meaning.{Meaning}
 use Rattle.meaning.specs.declared.Meaning.the-variants as meaning
 use Rattle.meaning.specs.Reading.{badNumber, badPounds, badArea, badWall, badHeat, signed, tenthsOf, badTenths, substanceOf, isOutOfRange, boundsIf, boundsOf, boundsRefusal, BoundsLimits, toxicBounded, isListed, toxicMeaning, flammableOf, shaped, meaningOf}
+use Rattle.meaning.specs.States.{by-state}
 use Rattle.meaning.specs.Ranges.{pounds-within}
 
 -- the area
@@ -105,29 +106,21 @@ heat-high t r e q = simp e (sym q)
 -- what bytes 18 and 19 are, and what the exhibits say
 module _ (f : Fields) where
   pub concentration : f .state ≡ 5 → Concentration (f .heat) ≡ tenthsOf f
-  unfolding tenthsOf
-  concentration e = simp (eq-eqb (f .state) 5 e, tenthsOf)
+  concentration e = by-state f (λ x t. Concentration (f .heat) ≡ t) (λ _. refl) (λ n. absurd (n e))
 
   -- a temperature that was handed on by its bits
   pub temperature : (t : ℤ) → SFits w16 t → (f .state ≡ 5 → ⊥) → t ≡ signed (f .heat) → Temperature (toZ w16 (ofZ w16 t)) ≡ tenthsOf f
-  unfolding tenthsOf
-  temperature t fits n e = simp (ne-eqb (f .state) 5 n, tenthsOf) (ap Temperature (toZ-ofZ fits ∙ e))
+  temperature t fits n e =
+      by-state f (λ x u. Temperature (toZ w16 (ofZ w16 t)) ≡ u) (λ s. absurd (n s)) (λ _. ap Temperature (toZ-ofZ fits ∙ e))
 
   pub entry-dissolved : (x : Toxic) → f .state ≡ 5 → x ≡ solutionOf (f .cas) (f .heat) → x ≡ substanceOf f
-  unfolding substanceOf
-  entry-dissolved x e q = simp (eq-eqb (f .state) 5 e, substanceOf) q
+  entry-dissolved x e q = by-state f (λ y t. x ≡ y) (λ _. q) (λ n. absurd (n e))
 
   pub entry-pure : (x : Toxic) → (f .state ≡ 5 → ⊥) → x ≡ toxicOf (f .cas) → x ≡ substanceOf f
-  unfolding substanceOf
-  entry-pure x n q = simp (ne-eqb (f .state) 5 n, substanceOf) q
+  entry-pure x n q = by-state f (λ y t. x ≡ y) (λ s. absurd (n s)) (λ _. q)
 
   entry-within : Within (substanceOf f)
-  unfolding substanceOf
-  entry-within = go (eqb (f .state) 5)
-    where
-      go : (t : Bool) → Within (elim t as (λ _. Toxic) [ true ↦ solutionOf (f .cas) (f .heat) | false ↦ toxicOf (f .cas) ])
-      go true = solution-within (f .cas) (f .heat)
-      go false = within (f .cas)
+  entry-within = by-state f (λ x t. Within x) (λ _. solution-within (f .cas) (f .heat)) (λ _. within (f .cas))
 
 pub degrees-bad : (x : Tenths) (t : ℤ) (b : Bool) → SFits w16 t → x ≡ Temperature t → b ≡ badHeat (toZ w16 (ofZ w16 t)) → b ≡ badTenths x
 degrees-bad x t b fits e q = q ∙ (ap badHeat (toZ-ofZ fits) ∙ ap badTenths (sym e))

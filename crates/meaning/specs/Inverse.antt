@@ -3,13 +3,9 @@
 use Prim.Native.Nat.{ℕ}
 use mathlib.Core.Path.{_≡_, _∙_, refl, sym, ap}
 use mathlib.Core.Bool.{Bool, true, false, not}
-use lib.Dec.{eqb}
 use Rattle.search.specs.Laws.{clash}
 use Rattle.exhibits.specs.declared.Toxic.{Toxic}
-use Rattle.exhibits.specs.Exhibits.{toxicOf}
-use Rattle.exhibits.specs.Solutions.{solutionOf}
 use Rattle.scenario.specs.declared.Tenths.{Tenths}
-use Rattle.scenario.specs.declared.Tenths.the-variants.{Temperature, Concentration}
 use Rattle.scenario.specs.declared.ToxicCard.{ToxicCard}
 use Rattle.blast.specs.Blast.{isFlammable}
 use Rattle.fields.specs.declared.Fields.{Fields}
@@ -28,7 +24,7 @@ use Rattle.meaning.specs.declared.Bounds.the-variants as bounds
 use Rattle.meaning.specs.declared.FlammableCard.{FlammableCard}
 use Rattle.meaning.specs.declared.Meaning.{Meaning}
 use Rattle.meaning.specs.declared.Meaning.the-variants as meaning
-use Rattle.meaning.specs.Reading.{badNumber, badPounds, badArea, badWall, signed, tenthsOf, badTenths, substanceOf, isOutOfRange, boundsIf, boundsOf, toxicBounded, isListed, meaningIf, toxicMeaning, flammableOf, shaped, meaningOf}
+use Rattle.meaning.specs.Reading.{badNumber, badPounds, badArea, badWall, tenthsOf, badTenths, substanceOf, isOutOfRange, boundsIf, boundsOf, toxicBounded, isListed, meaningIf, toxicMeaning, flammableOf, shaped, meaningOf}
 
 -- what a toxic card tells of its fields
 pub record ToxicFrom (f : Fields) (card : ToxicCard) : Type 0 where
@@ -170,16 +166,3 @@ unfolding meaningOf
 flammable-from f last e =
     flammable-shaped f (shapeOf f) refl
     (passed (badNumber (f .number) last) refusal.Number (shaped (shapeOf f) f) e not-refused-flammable)
-
--- ---- cards with one CAS number, one state and the same bytes 18 and 19
-
-module _ (f g : Fields) (cas : f .cas ≡ g .cas) (state : f .state ≡ g .state) (heat : f .heat ≡ g .heat) where
-  pub same-entry : substanceOf f ≡ substanceOf g
-  unfolding substanceOf
-  same-entry = λ i.
-      elim (eqb (state i) 5) as (λ _. Toxic) [ true ↦ solutionOf (cas i) (heat i) | false ↦ toxicOf (cas i) ]
-
-  pub same-tenths : tenthsOf f ≡ tenthsOf g
-  unfolding tenthsOf
-  same-tenths = λ i.
-      elim (eqb (state i) 5) as (λ _. Tenths) [ true ↦ Concentration (heat i) | false ↦ Temperature (signed (heat i)) ]

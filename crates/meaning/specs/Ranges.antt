@@ -7,7 +7,7 @@ use mathlib.Core.Bool.{Bool, true, false, not}
 use mathlib.Core.Logic.{_⊎_, inl, inr}
 use lib.Dec.{ltb, eqb}
 use lib.IntN.{ℤ, pos, negsuc}
-use borrow.Author.Tests.{ltb-false, eqb-false, not-false}
+use borrow.Author.Tests.{ltb-false, not-false}
 use Rattle.search.specs.Laws.{clash}
 use Rattle.search.specs.Places.{either}
 use Rattle.search.specs.PlaceLaws.{neither}
@@ -25,8 +25,6 @@ use Rattle.release.specs.declared.Containment.{Containment}
 use Rattle.release.specs.declared.Containment.the-variants.{Open, Dike, Building}
 use Rattle.scenario.specs.declared.State.{State}
 use Rattle.scenario.specs.declared.State.the-variants.{Gas, Pressurized, Refrigerated, Liquid, Solution}
-use Rattle.scenario.specs.declared.Tenths.{Tenths}
-use Rattle.scenario.specs.declared.Tenths.the-variants.{Temperature, Concentration}
 use Rattle.fields.specs.declared.Fields.{Fields}
 use Rattle.refusals.specs.declared.Refusal.{Refusal}
 use Rattle.form.specs.declared.StateByte.the-variants as stateByte
@@ -41,6 +39,7 @@ use Rattle.form.specs.Same.{stateIn, state-byte, groundIn, ground-byte, held-by
 use Rattle.meaning.specs.declared.Bounds.{Bounds}
 use Rattle.meaning.specs.declared.Meaning.{Meaning}
 use Rattle.meaning.specs.declared.Meaning.the-variants as meaning
+use Rattle.meaning.specs.States.{by-state}
 use Rattle.meaning.specs.Reading.{badNumber, badPounds, badArea, badWall, badHeat, signed, tenthsOf, badTenths, substanceOf, isOutOfRange, boundsIf, boundsOf, toxicBounded, isListed, meaningIf, toxicMeaning, flammableOf, shaped, meaningOf}
 
 pub record Ranged (f : Fields) : Type 0 where
@@ -80,20 +79,14 @@ listed t e n = let z : _≡_ {A = ℕ} 0 1 = cc in clash z
 
 -- a concentration in range is at most 100 percent
 tenths-within : (f : Fields) → isListed (substanceOf f) ≡ true → badTenths (tenthsOf f) ≡ false → isOutOfRange (substanceOf f) ≡ false → (f .heat ≤ 3_000) ⊎ ((65_036 ≤ f .heat) × (f .state ≡ 5 → ⊥))
-unfolding substanceOf tenthsOf
-tenths-within f l t r = go (eqb (f .state) 5) refl l t r
+tenths-within f =
+    by-state f (λ x t. isListed x ≡ true → badTenths t ≡ false → isOutOfRange x ≡ false → (f .heat ≤ 3_000) ⊎ ((65_036 ≤ f .heat) × (f .state ≡ 5 → ⊥)))
+    (λ e l t r. inl (omega (arith, solution-percent (f .cas) (f .heat) (listed (solutionOf (f .cas) (f .heat)) l) (λ o. clash (cc)))))
+    (λ n l t r. either-end n (heat-within (f .heat) t))
   where
     either-end : (f .state ≡ 5 → ⊥) → (f .heat ≤ 3_000) ⊎ (65_036 ≤ f .heat) → (f .heat ≤ 3_000) ⊎ ((65_036 ≤ f .heat) × (f .state ≡ 5 → ⊥))
     either-end n (inl h) = inl h
     either-end n (inr h) = inr (h, n)
-
-    go : (b : Bool) → eqb (f .state) 5 ≡ b → isListed (elim b as (λ _. Toxic) [ true ↦ solutionOf (f .cas) (f .heat) | false ↦ toxicOf (f .cas) ]) ≡ true
-        → badTenths (elim b as (λ _. Tenths) [ true ↦ Concentration (f .heat) | false ↦ Temperature (signed (f .heat)) ]) ≡ false
-        → isOutOfRange (elim b as (λ _. Toxic) [ true ↦ solutionOf (f .cas) (f .heat) | false ↦ toxicOf (f .cas) ]) ≡ false
-        → (f .heat ≤ 3_000) ⊎ ((65_036 ≤ f .heat) × (f .state ≡ 5 → ⊥))
-    go true p l t r =
-        inl (omega (arith, solution-percent (f .cas) (f .heat) (listed (solutionOf (f .cas) (f .heat)) l) (λ e. clash (cc))))
-    go false p l t r = either-end (eqb-false (f .state) 5 p) (heat-within (f .heat) t)
 
 area-within : (n : ℕ) → either (eqb n 0) (ltb 1_000_000 n) ≡ false → n ≤ 1_000_000
 area-within n e = ltb-false 1_000_000 n (neither (eqb n 0) (ltb 1_000_000 n) e .1)
@@ -152,12 +145,10 @@ module _ (f : Fields) (entry : Toxic) (standing : Standing) where
 
 -- a substance that is listed has a CAS number of at most eight digits
 cas-within : (f : Fields) → isListed (substanceOf f) ≡ true → f .cas < 100_000_000
-unfolding substanceOf
-cas-within f l = go (eqb (f .state) 5) l
-  where
-    go : (b : Bool) → isListed (elim b as (λ _. Toxic) [ true ↦ solutionOf (f .cas) (f .heat) | false ↦ toxicOf (f .cas) ]) ≡ true → f .cas < 100_000_000
-    go true l = solution-below (f .cas) (f .heat) (listed (solutionOf (f .cas) (f .heat)) l)
-    go false l = exhibits.listed-below (f .cas) (listed (toxicOf (f .cas)) l)
+cas-within f =
+    by-state f (λ x t. isListed x ≡ true → f .cas < 100_000_000)
+    (λ e l. solution-below (f .cas) (f .heat) (listed (solutionOf (f .cas) (f .heat)) l))
+    (λ n l. exhibits.listed-below (f .cas) (listed (toxicOf (f .cas)) l))
 
 -- by what the bytes 0 to 3 make
 shaped-ranged : (f : Fields) (s : Shape) → shapeOf f ≡ s → Sound (shaped s f) → Ranged f

@@ -5,7 +5,7 @@ use Prim.Native.Nat.{ℕ, _-_, _^_, _<_}
 use native.Mathlib.Omega.{arith}
 use mathlib.Core.Path.{_≡_, refl}
 use mathlib.Core.Bool.{Bool, true, false}
-use lib.Dec.{ltb, eqb}
+use lib.Dec.{ltb}
 use lib.IntN.{ℤ, pos, negsuc}
 use Rattle.search.specs.Laws.{clash}
 use Rattle.scenario.specs.declared.Tenths.{Tenths}
@@ -26,6 +26,7 @@ use Rattle.meaning.specs.declared.FlammableCard.{FlammableCard}
 use Rattle.meaning.specs.declared.Meaning.{Meaning}
 use Rattle.meaning.specs.declared.Meaning.the-variants as meaning
 use Rattle.meaning.specs.Reading.{badNumber, signed, tenthsOf, meaningIf, shaped, meaningOf}
+use Rattle.meaning.specs.States.{by-state}
 use Rattle.meaning.specs.Inverse.{toxic-from, flammable-from}
 
 -- the two bytes that a temperature is read from
@@ -47,12 +48,7 @@ tenthsIn (Temperature t) = heatIn t
 tenthsIn (Concentration c) = c
 
 tenths-bytes : (f : Fields) → f .heat < 2 ^ 16 → f .heat ≡ tenthsIn (tenthsOf f)
-unfolding tenthsOf
-tenths-bytes f h = go (eqb (f .state) 5)
-  where
-    go : (t : Bool) → f .heat ≡ tenthsIn (elim t as (λ _. Tenths) [ true ↦ Concentration (f .heat) | false ↦ Temperature (signed (f .heat)) ])
-    go true = refl
-    go false = heat-bytes (f .heat) h
+tenths-bytes f h = by-state f (λ x t. f .heat ≡ tenthsIn t) (λ e. refl) (λ n. heat-bytes (f .heat) h)
 
 -- the fields one by one in their order, and that a card is its fields: what `cc` below is told of records
 abbrev made : (kind state ground containment cas pounds area wall heat number : ℕ) → Fields

@@ -12,7 +12,7 @@ use Rattle.exhibits.specs.PrintedB3.{b3}
 use Rattle.exhibits.specs.PrintedB4.{b4}
 use Rattle.exhibits.specs.Lines.{dfOf}
 use Rattle.exhibits.specs.Exhibits.{factorsOf, toxicOf}
-use Rattle.exhibits.specs.Solutions.{badConcentration, highest, linesOf, lowest, solutionOf}
+use Rattle.exhibits.specs.Solutions.{badPercent, highest, linesOf, lowest, solutionOf}
 use Rattle.neutral.specs.PrintedNeutral.{table1, table2, table3, table4}
 use Rattle.dense.specs.PrintedDense.{endpoints5, endpoints6, endpoints7, endpoints8, rates5, rates6, rates7, rates8, table5, table6, table7, table8}
 use Rattle.dispersion.specs.PrintedChemical.{table9, table10, table11, table12}
@@ -212,7 +212,7 @@ defined r =
 
 -- all that the rows compute with
 unfoldable pub computed : Unit {0}
-unfolding strung twoBytes fourBytes outcomeOf cardsOf cardsFrom headerOf badLength badVersion badCount badBuffer leadersOf leadersFrom leadersAfter answerOf fieldsOf badArea badHeat badNumber badPounds badWall blank boundsOf flammableOf groundOf heldOf meaningOf openOf shapeOf signed stateOf substanceOf tenthsOf toxicMeaning factorsOf toxicOf b1 b2 b3 b4 badConcentration highest linesOf lowest solutionOf firstAtLeast among lookUp blastReading isFlammable rowOf entryAt quantities table13 table1 table2 table3 table4 endpoints5 endpoints6 endpoints7 endpoints8 rates5 rates6 rates7 rates8 table5 table6 table7 table8 table9 table10 table11 table12 answered apart byRange byRow closest closestColumn closestFrom closestRow distance fromColumn holding inUse larger largest lastOf markOf past ratioBelow smaller thousandths readIn readingOf tables columnOf planOf poolOf tableOf vaporOf atMostTenMinutes dikedArea poolRate
+unfolding strung twoBytes fourBytes outcomeOf cardsOf cardsFrom headerOf badLength badVersion badCount badBuffer leadersOf leadersFrom leadersAfter answerOf fieldsOf badArea badHeat badNumber badPounds badWall blank boundsOf flammableOf groundOf heldOf meaningOf openOf shapeOf signed stateOf substanceOf tenthsOf toxicMeaning factorsOf toxicOf b1 b2 b3 b4 badPercent highest linesOf lowest solutionOf firstAtLeast among lookUp blastReading isFlammable rowOf entryAt quantities table13 table1 table2 table3 table4 endpoints5 endpoints6 endpoints7 endpoints8 rates5 rates6 rates7 rates8 table5 table6 table7 table8 table9 table10 table11 table12 answered apart byRange byRow closest closestColumn closestFrom closestRow distance fromColumn holding inUse larger largest lastOf markOf past ratioBelow smaller thousandths readIn readingOf tables columnOf planOf poolOf tableOf vaporOf atMostTenMinutes dikedArea poolRate
 computed = tt
 
 -- Every starred case of document 01.

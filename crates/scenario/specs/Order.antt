@@ -4,7 +4,7 @@ use Prim.Native.Nat.{ℕ, _≤_}
 use native.Mathlib.Omega.{arith}
 use mathlib.Core.Path.{_≡_, _∙_, refl, sym, ap, subst}
 use mathlib.Core.Bool.{Bool, true, false}
-use mathlib.Core.Logic.{_⊎_, inl, inr, ⊎-elim}
+use mathlib.Core.Logic.{_⊎_, inl, inr}
 use Rattle.exhibits.specs.declared.Plume.{Plume}
 use Rattle.exhibits.specs.declared.Toxic.{Toxic}
 use Rattle.exhibits.specs.declared.Toxic.the-variants as variants
@@ -12,7 +12,7 @@ use Rattle.exhibits.specs.declared.Gas as gases
 use Rattle.exhibits.specs.declared.Liquid as liquids
 use Rattle.release.specs.declared.Containment.{Containment}
 use Rattle.release.specs.declared.Containment.the-variants.{Open, Dike, Building}
-use Rattle.release.specs.Pool.{poolArea, poolRate, gasRate, beyondDike, isBuilding}
+use Rattle.release.specs.Pool.{gasRate, beyondDike, isBuilding}
 use Rattle.release.specs.Laws.{Looser, open-open, dike-dike, building-building, area-mono, gas-mono, pool-mono}
 use Rattle.scenario.specs.declared.State.{State}
 use Rattle.scenario.specs.declared.State.the-variants.{Gas, Pressurized, Refrigerated, Liquid, Solution}

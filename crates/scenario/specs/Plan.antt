@@ -148,7 +148,7 @@ abbrev pub solutionPlan : ToxicCard → solutions.Solution → Planned
 solutionPlan card s =
     planned.Planned (poolOf card (s .df) (s .lfa) 100 (isBuilding (card .containment)) (s .endpoint) (s .plume))
 
--- the scenario of a toxic card, or refusal 10
+-- the scenario of a toxic card, or refusal 10. What the exhibits say goes by the state: a line of B-3 is a card's in state 5 alone.
 abbrev pub planFor : Toxic → ToxicCard → Planned
 planFor (variants.OfGas g) card = gasPlan (card .state) card g
 planFor (variants.OfLiquid l) card = liquidPlan (card .state) card l

@@ -13,7 +13,7 @@ use units::PoundsPerMinute;
 ghost use mathlib.Core.Path.{_≡_};
 ghost use Prim.Native.Nat.{_≤_};
 ghost use Rattle.exhibits.specs.Laws.{Within};
-ghost use Rattle.scenario.specs.Plan.{tableOf, vaporOf, poolOf, undiked, pooled, gasPlan, columnIn, factored, liquidPlan, solutionPlan, planOf, Limits};
+ghost use Rattle.scenario.specs.Plan.{tableOf, vaporOf, poolOf, undiked, gasPlan, columnIn, liquidPlan, solutionPlan, planOf, Limits};
 
 // How the substance is held: document 01's states 1 to 4, and document 02's state 5, a water solution or oleum.
 pub enum State {
