@@ -79,10 +79,10 @@ fn to_signed(heat: u16) -> i16
 fn tenths_of(f: Fields) -> Tenths
     ensures { λ r. ⌜ r ≡ tenthsOf f ⌝ }
 {
-    if f.state == 5 {
-        return Tenths::Concentration(f.heat);
+    if f.state != 5 {
+        return Tenths::Temperature(to_signed(f.heat));
     }
-    Tenths::Temperature(to_signed(f.heat))
+    Tenths::Concentration(f.heat)
 }
 
 fn bad_tenths(tenths: Tenths) -> bool
