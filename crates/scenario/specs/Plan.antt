@@ -143,7 +143,8 @@ liquidPlan Refrigerated card l = planned.Mismatch
 liquidPlan Liquid card l = factored (factorsOf l (columnIn (card .tenths))) card l
 liquidPlan Solution card l = planned.Mismatch
 
--- "It runs route 2 with that LFA (at 1.5 m/s) and DF, TCF 1 and the shed factor of state 4": the line of B-3 that is read
+-- "It runs route 2 with that LFA (at 1.5 m/s) and DF, TCF 1 and the shed factor of state 4": the line of B-3 that is read. "Pounds
+-- mean the whole solution", so the pool is that of the card's quantity, as ever.
 abbrev pub solutionPlan : ToxicCard → solutions.Solution → Planned
 solutionPlan card s =
     planned.Planned (poolOf card (s .df) (s .lfa) 100 (isBuilding (card .containment)) (s .endpoint) (s .plume))
