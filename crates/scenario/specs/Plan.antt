@@ -88,7 +88,8 @@ vaporOf card endpoint plume =
       endpoint = endpoint;
     }
 
--- "Route 2, pool: 1.4 × LF × area × TCF; for state 4 in a building × 0.1 as well", and its duration's table; in state 5 too
+-- "Route 2, pool: 1.4 × LF × area × TCF; for state 4 in a building × 0.1 as well", as for state 5; its duration selects the table
+-- where the state asks for it
 unfoldable pub poolOf : ToxicCard → ℕ → ℕ → ℕ → Bool → ℕ → Plume → Scenario
 poolOf card df lf tcf shed endpoint plume =
     let rate : ℕ = poolRate lf tcf (poolArea (card .quantity .0) df (card .containment)) shed in
