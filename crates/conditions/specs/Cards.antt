@@ -105,18 +105,25 @@ form-refused f {r} e = go (eqb (f .kind) 1) (eqb (f .kind) 2) e
     go false true q = blank-refused (blank f) q
     go false false q = cc
 
--- 7 for each kind
+-- 7 by byte 0, and for each kind
+abbrev casIn : List ℕ → ℕ → Bool
+casIn card kind =
+    anyOf (
+    both (eqb kind 1) (both (not (inSolution card)) (not (either (ofGas card) (ofLiquid card))))
+    ∷ both (eqb kind 1) (both (inSolution card) (not (ofSolution card)))
+    ∷ both (eqb kind 2) (not (ofTable13 card))
+    ∷ []
+    )
+
 cas-toxic : (card : List ℕ) → byteAt card 0 ≡ 1 → badCas card ≡ either (both (not (inSolution card)) (not (either (ofGas card) (ofLiquid card)))) (both (inSolution card) (not (ofSolution card)))
 unfolding badCas
 cas-toxic card e =
-    ap (λ k. anyOf (both (eqb k 1) (both (not (inSolution card)) (not (either (ofGas card) (ofLiquid card)))) ∷ both (eqb k 1) (both (inSolution card) (not (ofSolution card))) ∷ both (eqb k 2) (not (ofTable13 card)) ∷ [])) e
+    ap (casIn card) e
     ∙ ap (either (both (not (inSolution card)) (not (either (ofGas card) (ofLiquid card))))) (either-last (both (inSolution card) (not (ofSolution card))))
 
 cas-flammable : (card : List ℕ) → byteAt card 0 ≡ 2 → badCas card ≡ not (ofTable13 card)
 unfolding badCas
-cas-flammable card e =
-    ap (λ k. anyOf (both (eqb k 1) (both (not (inSolution card)) (not (either (ofGas card) (ofLiquid card)))) ∷ both (eqb k 1) (both (inSolution card) (not (ofSolution card))) ∷ both (eqb k 2) (not (ofTable13 card)) ∷ [])) e
-    ∙ either-last (not (ofTable13 card))
+cas-flammable card e = ap (casIn card) e ∙ either-last (not (ofTable13 card))
 
 -- 11 for each kind
 beyond-toxic : (card : List ℕ) (standing : Standing) → Stands (fieldsOf card) standing → beyond card ≡ beyondPlan (planOf (cardFrom (fieldsOf card) standing)) (standing .ground)

@@ -42,6 +42,10 @@ use Rattle.meaning.specs.declared.Meaning.the-variants as meaning
 use Rattle.meaning.specs.States.{by-state}
 use Rattle.meaning.specs.Reading.{badNumber, badPounds, badArea, badWall, badHeat, signed, tenthsOf, badTenths, substanceOf, isOutOfRange, boundsIf, boundsOf, toxicBounded, isListed, meaningIf, toxicMeaning, flammableOf, shaped, meaningOf}
 
+-- a temperature or a concentration in range, as the two bytes hold it: from 0 up, or a temperature below 0
+abbrev pub TenthsRanged : Fields → Type 0
+TenthsRanged f = (f .heat ≤ 3_000) ⊎ ((65_036 ≤ f .heat) × (f .state ≡ 5 → ⊥))
+
 pub record Ranged (f : Fields) : Type 0 where
   pub kind : f .kind ≤ 2
   pub state : f .state ≤ 5
@@ -51,8 +55,7 @@ pub record Ranged (f : Fields) : Type 0 where
   pub pounds : f .pounds ≤ 10_000_000
   pub area : f .area ≤ 1_000_000
   pub wall : f .wall ≤ 10_000
-  -- as the two bytes hold it: from 0 up, or a temperature below 0
-  pub heat : (f .heat ≤ 3_000) ⊎ ((65_036 ≤ f .heat) × (f .state ≡ 5 → ⊥))
+  pub heat : TenthsRanged f
 
 -- ---- what the tests of 8, 9, 14, 15 and 16 say of a number that they let pass
 
@@ -78,13 +81,13 @@ listed : (t : Toxic) → isListed t ≡ true → t ≡ NotListed → ⊥
 listed t e n = let z : _≡_ {A = ℕ} 0 1 = cc in clash z
 
 -- a concentration in range is at most 100 percent
-tenths-within : (f : Fields) → isListed (substanceOf f) ≡ true → badTenths (tenthsOf f) ≡ false → isOutOfRange (substanceOf f) ≡ false → (f .heat ≤ 3_000) ⊎ ((65_036 ≤ f .heat) × (f .state ≡ 5 → ⊥))
+tenths-within : (f : Fields) → isListed (substanceOf f) ≡ true → badTenths (tenthsOf f) ≡ false → isOutOfRange (substanceOf f) ≡ false → TenthsRanged f
 tenths-within f =
-    by-state f (λ x t. isListed x ≡ true → badTenths t ≡ false → isOutOfRange x ≡ false → (f .heat ≤ 3_000) ⊎ ((65_036 ≤ f .heat) × (f .state ≡ 5 → ⊥)))
+    by-state f (λ x t. isListed x ≡ true → badTenths t ≡ false → isOutOfRange x ≡ false → TenthsRanged f)
     (λ e l t r. inl (omega (arith, solution-percent (f .cas) (f .heat) (listed (solutionOf (f .cas) (f .heat)) l) (λ o. clash (cc)))))
     (λ n l t r. either-end n (heat-within (f .heat) t))
   where
-    either-end : (f .state ≡ 5 → ⊥) → (f .heat ≤ 3_000) ⊎ (65_036 ≤ f .heat) → (f .heat ≤ 3_000) ⊎ ((65_036 ≤ f .heat) × (f .state ≡ 5 → ⊥))
+    either-end : (f .state ≡ 5 → ⊥) → (f .heat ≤ 3_000) ⊎ (65_036 ≤ f .heat) → TenthsRanged f
     either-end n (inl h) = inl h
     either-end n (inr h) = inr (h, n)
 

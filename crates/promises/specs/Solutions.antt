@@ -27,7 +27,7 @@ rows =
     ∷ row (toxic 1 (ammoniaWater rural 300) 2 10 not-given 200_200 80 ∷ toxic 2 (ammoniaWater urban 250) 2 10 not-given 200_200 30 ∷ []) (at 1 80) none
     ∷ []
 
--- Every row. "Always a 10-minute table": each of these pools lasts for an hour or longer.
+-- Every row. "Always a 10-minute table": each of these pools lasts for more than ten minutes.
 pub dissolved : map defined rows ≡ map stated rows
 unfolding rows computed
 dissolved = refl
