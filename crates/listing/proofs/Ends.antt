@@ -5,6 +5,7 @@ use native.Mathlib.Omega.{arith}
 use mathlib.Core.Path.{_≡_, _∙_, ap, sym, subst}
 use mathlib.Core.List.{List, _++_}
 use lib.ListN.{length, take, drop}
+use lib.Seq.{sets}
 use borrow.Author.Tests.{lt-ltb, le-ltb}
 use Rattle.refusals.specs.declared.Refusal.{Refusal}
 use Rattle.refusals.specs.Numbers.{numberOf}
@@ -14,35 +15,52 @@ use Rattle.header.specs.declared.Header.the-variants as header
 use Rattle.header.specs.Header.{enough, headerOf}
 use Rattle.walk.specs.declared.Outcome.{Outcome}
 use Rattle.walk.specs.declared.Outcome.the-variants as outcome
+use Rattle.walk.specs.declared.Running.{Running}
+use Rattle.walk.specs.declared.Walked.{Walked}
+use Rattle.walk.specs.declared.Walked.the-variants as walked
+use Rattle.walk.specs.declared.Writes.the-variants as writes
+use Rattle.walk.specs.Walk.{beforeCards, walkFrom, textFrom}
+use Rattle.walk.specs.Walk.{Within as Reached}
 use Rattle.register.specs.Register.{outcomeOf}
+use Rattle.register.specs.Walked.{passed}
 use Rattle.buffer.specs.Wrote.{Wrote}
 use Rattle.buffer.specs.Laws.{joined, written-first}
 use Rattle.closing.specs.Closing.{leaderLine, refusedLine, tooLong}
 use Rattle.listing.specs.declared.Listed.the-variants as listed
 use Rattle.listing.specs.Listing.{longest, leaderLines, listedAfter, unlessLong, textOf, listingRoom, ifRoom, listedOf, keptIf, listedInto}
-use Rattle.listing.specs.Walk.{linesFrom}
-use Rattle.listing.specs.Laws.{accepted-text, accepted-header, sent-back-text}
+use Rattle.listing.specs.Laws.{IsAccepted, accepted-text, accepted-walk, accepted-header, sent-back-text}
 
 module _ {b₀ b₁ b₂ : List ℕ} {at mid end : ℕ} where
   pub leaders-line : (l : Leaders) → Wrote b₀ b₁ at mid (leaderLine 84 (l .toxic)) → Wrote b₁ b₂ mid end (leaderLine 70 (l .flammable)) → Wrote b₀ b₂ at end (leaderLines l)
   unfolding leaderLines
   leaders-line l toxic flammable = joined toxic flammable
 
-  pub accepted-lines : (bytes : List ℕ) (n : ℕ) {l : Leaders} (h : Header) → h ≡ headerOf bytes enough → h ≡ header.Good n → outcomeOf bytes enough ≡ outcome.Accepted l
-      → Wrote b₀ b₁ at mid (linesFrom n 0 (take (length bytes - 7) (drop 7 bytes))) → Wrote b₁ b₂ mid end (leaderLines l) → Wrote b₀ b₂ at end (listedAfter (headerOf bytes enough) bytes)
-  accepted-lines bytes n h e q o cards leaders =
-      subst (Wrote b₀ b₂ at end) (accepted-text bytes n o (sym e ∙ q)) (joined cards leaders)
+module _ {out after : List ℕ} {end : ℕ} (bytes : List ℕ) (n : ℕ) (h : Header) (e : h ≡ headerOf bytes enough) (good : h ≡ header.Good n) (x : Walked) (w : x ≡ walkFrom writes.Lines n beforeCards 0 (take (length bytes - 7) (drop 7 bytes))) where
+  -- the cards' lines, and the leaders' behind them
+  pub accepted-lines : {lined : List ℕ} (t : Running) (size : ℕ) → x ≡ walked.On t size
+      → lined ≡ sets out 0 (textFrom writes.Lines n beforeCards (take (length bytes - 7) (drop 7 bytes)))
+      → Wrote lined after size end (leaderLines (t .leaders)) → Wrote out after 0 end (listedAfter (headerOf bytes enough) bytes)
+  accepted-lines t size q cards leaders =
+      let p = passed writes.Lines n beforeCards (take (length bytes - 7) (drop 7 bytes)) t size (sym w ∙ q) in
+      subst (Wrote out after 0 end) (accepted-text bytes n (sym e ∙ good) t size p)
+      (joined {s = textFrom writes.Lines n beforeCards (take (length bytes - 7) (drop 7 bytes))} (record { place = omega (arith, p .sized, ap length (p .text)); bytes = cards }) leaders)
 
--- 128 bytes a card: the leaders have room behind 2,000 cards
-pub behind-cards : (at n : ℕ) → at ≤ 128 * n → n ≤ 2_000 → at ≤ 128 * 2_000
-behind-cards at n long few = omega arith
+  pub never-stopped : (r : Refusal) (place : ℕ) → x ≡ walked.Refused r place → IsAccepted (outcomeOf bytes enough) → Wrote out after 0 end (listedAfter (headerOf bytes enough) bytes)
+  never-stopped r place q o = accepted-walk bytes n (sym e ∙ good) r place o (sym w ∙ q)
 
-pub accepted-is : (bytes : List ℕ) (x : Outcome) {l : Leaders} → x ≡ outcomeOf bytes enough → x ≡ outcome.Accepted l → outcomeOf bytes enough ≡ outcome.Accepted l
-accepted-is bytes x e q = sym e ∙ q
+-- 128 bytes a card: 2,000 cards have room, and the leaders behind them
+pub lines-room : (n : ℕ) (out : List ℕ) → n ≤ 2_000 → listingRoom ≤ length out → 128 * n ≤ length out
+lines-room n out few h = omega arith
+
+pub behind-cards : (x : Walked) (t : Running) (size n : ℕ) → x ≡ walked.On t size → Reached (128 * n) x → n ≤ 2_000 → size ≤ 128 * 2_000
+behind-cards x t size n q r few = let z : size ≤ 128 * n = subst (Reached (128 * n)) q r in omega arith
+
+pub accepted-is : (bytes : List ℕ) (x : Outcome) {l : Leaders} → x ≡ outcomeOf bytes enough → x ≡ outcome.Accepted l → IsAccepted (outcomeOf bytes enough)
+accepted-is bytes x e q = subst IsAccepted (sym q ∙ e) tt
 
 module _ {before after : List ℕ} {at end : ℕ} (bytes : List ℕ) where
   -- the header of an accepted register is good
-  pub never-refused : {l : Leaders} {r : Refusal} (h : Header) → h ≡ headerOf bytes enough → h ≡ header.Refused r → outcomeOf bytes enough ≡ outcome.Accepted l → Wrote before after at end (listedAfter (headerOf bytes enough) bytes)
+  pub never-refused : {r : Refusal} (h : Header) → h ≡ headerOf bytes enough → h ≡ header.Refused r → IsAccepted (outcomeOf bytes enough) → Wrote before after at end (listedAfter (headerOf bytes enough) bytes)
   never-refused h e q o = accepted-header bytes o (sym e ∙ q)
 
   pub sent-back-line : (x : Outcome) (r : Refusal) (number place : ℕ) → x ≡ outcomeOf bytes enough → x ≡ outcome.Refused r place → number ≡ numberOf r → Wrote before after at end (refusedLine number place) → Wrote before after at end (listedAfter (headerOf bytes enough) bytes)

@@ -1,6 +1,6 @@
--- The walk of the code comes to the lines of the cards, and the outcome of a register to its text.
+-- The walk that writes lines comes to the lines of the cards and the leaders, and the outcome of a register to its text.
 -- Assumes nothing.
-use Prim.Native.Nat.{ℕ, zero, suc, _-_, _≤_}
+use Prim.Native.Nat.{ℕ, _-_, _≤_}
 use native.Mathlib.Omega.{arith}
 use mathlib.Core.Path.{_≡_, _∙_, refl, ap, ap₂, sym, subst}
 use mathlib.Core.List.{List, [], _∷_, _++_}
@@ -9,58 +9,70 @@ use Rattle.search.specs.Laws.{clash}
 use Rattle.refusals.specs.declared.Refusal.{Refusal}
 use Rattle.refusals.specs.Numbers.{numberOf}
 use Rattle.card.specs.declared.Answer.{Answer}
-use Rattle.card.specs.declared.Answered.{Answered}
-use Rattle.card.specs.declared.Answered.the-variants as answered
-use Rattle.card.specs.Answers.{answerOf}
-use Rattle.farthest.specs.declared.Leaders.{Leaders}
 use Rattle.header.specs.declared.Header.{Header}
 use Rattle.header.specs.declared.Header.the-variants as header
 use Rattle.header.specs.Header.{enough, headerOf}
+use Rattle.walk.specs.declared.Outcome.{Outcome}
 use Rattle.walk.specs.declared.Outcome.the-variants as outcome
-use Rattle.register.specs.Register.{Cards, answers, sent-back, then, cardsFrom, cardsOf, resultOf, afterHeader, outcomeOf}
-use Rattle.register.specs.Laws.{joined-is, behind-header}
+use Rattle.walk.specs.declared.Running.{Running}
+use Rattle.walk.specs.declared.Walked.the-variants as walked
+use Rattle.walk.specs.declared.Writes.the-variants as writes
+use Rattle.walk.specs.Walk.{beforeCards, textsOf, walkFrom, textFrom}
+use Rattle.register.specs.Register.{Cards, answers, sent-back, cardsFrom, cardsOf, resultOf, afterHeader, outcomeOf}
+use Rattle.register.specs.Laws.{behind-header}
+use Rattle.register.specs.Walked.{Passed, passed-leaders, stopped}
 use Rattle.lines.specs.Lines.{cardLine}
 use Rattle.closing.specs.Closing.{refusedLine}
 use Rattle.listing.specs.declared.Listed.{Listed}
 use Rattle.listing.specs.declared.Listed.the-variants as listed
 use Rattle.listing.specs.Listing.{cardLines, leaderLines, listingOf, listedAfter, Within}
-use Rattle.listing.specs.Walk.{lined, linesFrom}
 
--- over cards that are all answered the walk gives a line for each
-pub lines-is : (n place last : ℕ) (bytes : List ℕ) (xs : List Answer) → cardsFrom n place last bytes ≡ answers xs → linesFrom n last bytes ≡ cardLines xs
-unfolding linesFrom cardsFrom cardLines
-lines-is zero place last bytes [] e = refl
-lines-is zero place last bytes (x ∷ xs) e = let z : _≡_ {A = ℕ} 0 1 = cc in clash z
-lines-is (suc n) place last bytes xs e =
-    go (answerOf (take 24 bytes) last) (λ a ys. lines-is n (suc place) (a .number) (drop 24 bytes) ys) e
-  where
-    go : (x : Answered) → ((a : Answer) (ys : List Answer) → cardsFrom n (suc place) (a .number) (drop 24 bytes) ≡ answers ys → linesFrom n (a .number) (drop 24 bytes) ≡ cardLines ys) → then x place (λ k. cardsFrom n (suc place) k (drop 24 bytes)) ≡ answers xs → lined x (λ (a : Answer). cardLine a ++ linesFrom n (a .number) (drop 24 bytes)) ≡ cardLines xs
-    go (answered.Is a) ih q =
-        let j = joined-is a (cardsFrom n (suc place) (a .number) (drop 24 bytes)) q in
-        ap (λ text. cardLine a ++ text) (ih a (j .0) (j .1)) ∙ ap cardLines (j .2)
-    go (answered.Refused r) ih q = let z : _≡_ {A = ℕ} 0 1 = cc in clash z
+-- the register is accepted
+abbrev pub IsAccepted : Outcome → Type 0
+IsAccepted (outcome.Accepted l) = Unit {0}
+IsAccepted (outcome.Refused r place) = ⊥
 
-accepted-lines : (n : ℕ) (bytes : List ℕ) (c : Cards) {l : Leaders} → cardsFrom n 0 0 bytes ≡ c → resultOf c ≡ outcome.Accepted l → linesFrom n 0 bytes ++ leaderLines l ≡ listingOf c
-accepted-lines n bytes (answers xs) e q = ap₂ (λ text l. text ++ leaderLines l) (lines-is n 0 0 bytes xs e) (cc)
-accepted-lines n bytes (sent-back r place) e q = let z : _≡_ {A = ℕ} 0 1 = cc in clash z
+-- what the walk writes are the lines of the cards
+texts-lines : (xs : List Answer) → textsOf writes.Lines xs ≡ cardLines xs
+unfolding textsOf cardLines
+texts-lines [] = refl
+texts-lines (a ∷ xs) = ap (λ text. cardLine a ++ text) (texts-lines xs)
 
 refused-text : (c : Cards) {r : Refusal} {place : ℕ} → resultOf c ≡ outcome.Refused r place → refusedLine (numberOf r) place ≡ listingOf c
 refused-text (answers xs) e = let z : _≡_ {A = ℕ} 0 1 = cc in clash z
 refused-text (sent-back r place) e = cc
 
-module _ (bytes : List ℕ) where
-  -- an accepted register prints its cards and then its leaders
-  pub accepted-text : (n : ℕ) {l : Leaders} → outcomeOf bytes enough ≡ outcome.Accepted l → headerOf bytes enough ≡ header.Good n → linesFrom n 0 (take (length bytes - 7) (drop 7 bytes)) ++ leaderLines l ≡ listedAfter (headerOf bytes enough) bytes
-  unfolding outcomeOf cardsOf
-  accepted-text n {l} q e =
-      ap (λ y. linesFrom n 0 y ++ leaderLines l) (behind-header bytes)
-      ∙ (accepted-lines n (drop 7 bytes) (cardsOf n bytes) refl (ap (λ h. afterHeader h bytes) (sym e) ∙ q)
-      ∙ ap (λ h. listedAfter h bytes) (sym e))
+-- a good header: what the walk behind it writes and ends with
+module _ (bytes : List ℕ) (n : ℕ) (good : headerOf bytes enough ≡ header.Good n) where
+  -- the cards as the code takes them
+  abbrev Rest : List ℕ
+  Rest = take (length bytes - 7) (drop 7 bytes)
 
-  -- a refused header is never accepted
-  pub accepted-header : {A : Type 0} {l : Leaders} {r : Refusal} → outcomeOf bytes enough ≡ outcome.Accepted l → headerOf bytes enough ≡ header.Refused r → A
+  rest-cards : cardsFrom n 0 0 Rest ≡ cardsOf n bytes
+  unfolding cardsOf
+  rest-cards = ap (cardsFrom n 0 0) (behind-header bytes)
+
+  -- an accepted register prints its cards and then its leaders
+  pub accepted-text : (t : Running) (size : ℕ) → Passed writes.Lines n beforeCards Rest t size → textFrom writes.Lines n beforeCards Rest ++ leaderLines (t .leaders) ≡ listedAfter (headerOf bytes enough) bytes
+  accepted-text t size p =
+      ap₂ (λ text l. text ++ leaderLines l) (p .text ∙ texts-lines (p .list)) (passed-leaders writes.Lines n Rest t size p)
+      ∙ (ap listingOf (sym (p .cards) ∙ rest-cards) ∙ ap (λ h. listedAfter h bytes) (sym good))
+
+  -- its walk stops at no card
+  pub accepted-walk : {A : Type 0} (r : Refusal) (place : ℕ) → IsAccepted (outcomeOf bytes enough) → walkFrom writes.Lines n beforeCards 0 Rest ≡ walked.Refused r place → A
   unfolding outcomeOf
-  accepted-header q e = let w = ap (λ h. afterHeader h bytes) (sym e) ∙ q in let z : _≡_ {A = ℕ} 0 1 = cc in clash z
+  accepted-walk r place o e =
+      absurd
+      (subst IsAccepted
+      (ap (λ h. afterHeader h bytes) good
+      ∙ ap resultOf (sym rest-cards ∙ stopped writes.Lines n beforeCards Rest r place e))
+      o)
+
+module _ (bytes : List ℕ) where
+  -- a refused header is never accepted
+  pub accepted-header : {A : Type 0} {r : Refusal} → IsAccepted (outcomeOf bytes enough) → headerOf bytes enough ≡ header.Refused r → A
+  unfolding outcomeOf
+  accepted-header o e = absurd (subst IsAccepted (ap (λ h. afterHeader h bytes) e) o)
 
   -- and a register that is sent back prints why
   pub sent-back-text : {r : Refusal} {place : ℕ} → outcomeOf bytes enough ≡ outcome.Refused r place → refusedLine (numberOf r) place ≡ listedAfter (headerOf bytes enough) bytes

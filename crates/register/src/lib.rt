@@ -1,6 +1,8 @@
 // A register: its cards checked in turn, then answered into the lent buffer.
 use header::Header;
 pub use walk::Outcome;
+use walk::Walked;
+use walk::Writes;
 ghost use mathlib.Core.Path.{_≡_};
 ghost use Prim.Native.Nat.{_*_, _≤_};
 ghost use lib.ListN.{length};
@@ -13,14 +15,14 @@ fn answer_through(cards: &[u8], count: usize, scratch: &mut [u8], answers: &mut 
     ensures { λ r. ⌜ r ≡ resultOf (cardsFrom count 0 0 (now (cards .entry))) ⌝ }
     ensures { λ r. ⌜ now (answers .exit) ≡ filledWith (cardsFrom count 0 0 (now (cards .entry))) (now (answers .entry)) ⌝ }
 {
-    let outcome = walk::survey_and_fill(cards, count, scratch);
-    let end = 16 * count;
-    match outcome {
-        Outcome::Accepted(leaders) => {
-            buffer::put_text(answers, 0, &scratch[..end]);
+    let walked = walk::through(cards, count, Writes::Answers, scratch);
+    match walked {
+        Walked::On(running, size) => {
+            let leaders = running.leaders;
+            buffer::put_text(answers, 0, &scratch[..size]);
             Outcome::Accepted(leaders)
         }
-        Outcome::Refused(refusal, place) => Outcome::Refused(refusal, place),
+        Walked::Refused(refusal, place) => Outcome::Refused(refusal, place),
     }
 }
 
@@ -30,7 +32,8 @@ fn answer_one(cards: &[u8], count: usize, answers: &mut [u8]) -> Outcome
     ensures { λ r. ⌜ r ≡ resultOf (cardsFrom count 0 0 (now (cards .entry))) ⌝ }
     ensures { λ r. ⌜ now (answers .exit) ≡ filledWith (cardsFrom count 0 0 (now (cards .entry))) (now (answers .entry)) ⌝ }
 {
-    walk::survey_and_fill(cards, count, answers)
+    let walked = walk::through(cards, count, Writes::Answers, answers);
+    walk::outcome_of(walked)
 }
 
 // A short register has a short buffer: to clear the long one costs about as much as four cards.
@@ -79,6 +82,16 @@ pub fn fill(register: &[u8], answers: &mut [u8]) -> Outcome
     answer_all(&register[7..], count, answers)
 }
 
+// The walk that only asks writes nothing.
+fn ask(cards: &[u8], count: usize) -> Outcome
+    requires { ⌜ (count ≤ 2000) × (24 * count ≤ length (now cards)) ⌝ }
+    ensures { λ r. ⌜ r ≡ resultOf (cardsFrom count 0 0 (now (cards .entry))) ⌝ }
+{
+    let mut nowhere = [0u8; 1];
+    let walked = walk::through(cards, count, Writes::Nothing, &mut nowhere);
+    walk::outcome_of(walked)
+}
+
 // What the call would answer with a buffer of this length, and no byte is written: what a reader asks who lists a register.
 pub fn outcome_of(register: &[u8], room: usize) -> Outcome
     ensures { λ r. ⌜ r ≡ outcomeOf (now (register .entry)) room ⌝ }
@@ -87,5 +100,5 @@ pub fn outcome_of(register: &[u8], room: usize) -> Outcome
     let Header::Good(count) = header else {
         return Outcome::Refused(header::header_refusal(header), 0);
     };
-    walk::survey(&register[7..], count)
+    ask(&register[7..], count)
 }

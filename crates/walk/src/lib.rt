@@ -1,14 +1,16 @@
-// The walk over a register's cards, in two forms: one only checks every card and keeps the leaders, the other writes the
-// answers on the way. Both stop at the first card that is refused.
+// The one walk over a register's cards. A step takes the running values and a card, and answers the next ones or the refusal; the
+// walk takes a step for each card and writes what it is asked to write of it. Who answers a register, who only asks about it, who
+// lists it and who wants the leaders after some of its cards all go by it.
+use card::Answer;
 use card::Answered;
 use farthest::Leaders;
 use refusals::Refusal;
 ghost use mathlib.Core.Path.{_≡_};
-ghost use Prim.Native.Nat.{_+_, _*_, _≤_, _<_};
+ghost use Prim.Native.Nat.{_+_, _-_, _*_, _≤_, _<_};
 ghost use lib.ListN.{length, take, drop};
-ghost use Rattle.card.specs.Answers.{answerOf};
-ghost use Rattle.farthest.specs.Farthest.{noLeaders};
-ghost use Rattle.walk.specs.Walks.{answeredRefusal, surveyFrom, fillFrom};
+ghost use lib.Seq.{sets};
+ghost use Rattle.buffer.specs.Wrote.{Wrote};
+ghost use Rattle.walk.specs.Walk.{beforeCards, stepOf, textOf, mostOf, walkFrom, textFrom, endOf, Within};
 
 // What a call answers: both classes' farthest, or a refusal and the place of its card.
 pub enum Outcome {
@@ -16,63 +18,133 @@ pub enum Outcome {
     Refused(Refusal, u32),
 }
 
-fn refusal_of(answered: Answered) -> Refusal
-    ensures { λ r. ⌜ r ≡ answeredRefusal answered ⌝ }
+// The running values: the farthest card of each class so far, the last card's number, and the place of the next card.
+pub struct Running {
+    pub leaders: Leaders,
+    pub last: u32,
+    pub place: usize,
+}
+
+// A step: the running values after a card, and what the card answers; or why it is sent back, and its place.
+pub enum Stepped {
+    On(Running, Answer),
+    Refused(Refusal, u32),
+}
+
+// What a walk writes of each card: nothing, its sixteen bytes of the answer buffer, or its line of a listing.
+pub enum Writes {
+    Nothing,
+    Answers,
+    Lines,
+}
+
+// The end of a walk: the running values where it was to end, and how many bytes were written; or the refusal it stopped at.
+pub enum Walked {
+    On(Running, usize),
+    Refused(Refusal, u32),
+}
+
+// The running values before the first card.
+pub fn start() -> Running
+    ensures { λ r. ⌜ r ≡ beforeCards ⌝ }
 {
+    Running {
+        leaders: farthest::no_leaders(),
+        last: 0,
+        place: 0,
+    }
+}
+
+// One card more.
+pub fn step(running: Running, card: &[u8]) -> Stepped
+    requires { ⌜ running .place < 2000 ⌝ }
+    ensures { λ r. ⌜ r ≡ stepOf running (now (card .entry)) ⌝ }
+{
+    let answered = card::answer_of(card, running.last);
     match answered {
-        Answered::Is(_) => Refusal::Beyond,
-        Answered::Refused(refusal) => refusal,
+        Answered::Is(answer) => {
+            let before = running.leaders;
+            let leaders = farthest::lead(before, answer);
+            let next = Running {
+                leaders,
+                last: answer.number,
+                place: running.place + 1,
+            };
+            Stepped::On(next, answer)
+        }
+        Answered::Refused(refusal) => Stepped::Refused(refusal, running.place as u32),
     }
 }
 
-// The answer of the card at a place, after the last card's number.
-fn answer_at(cards: &[u8], place: usize, last: u32) -> Answered
-    requires { ⌜ (place < 2000) × (24 * place + 24 ≤ length (now cards)) ⌝ }
-    ensures { λ r. ⌜ r ≡ answerOf (take 24 (drop (24 * place) (now (cards .entry)))) last ⌝ }
+// The step to the card at the running place.
+fn step_at(cards: &[u8], running: Running) -> Stepped
+    requires { ⌜ (running .place < 2000) × (24 * running .place + 24 ≤ length (now cards)) ⌝ }
+    ensures { λ r. ⌜ r ≡ stepOf running (take 24 (drop (24 * running .place) (now (cards .entry)))) ⌝ }
 {
-    let at = 24 * place;
+    let at = 24 * running.place;
     let end = at + 24;
-    card::answer_of(&cards[at..end], last)
+    step(running, &cards[at..end])
 }
 
-// The walk that writes nothing: every card is checked, and the leaders are kept on the way.
-pub fn survey(cards: &[u8], count: usize) -> Outcome
-    requires { ⌜ (count ≤ 2000) × (24 * count ≤ length (now cards)) ⌝ }
-    ensures { λ r. ⌜ r ≡ surveyFrom count 0 0 (now (cards .entry)) noLeaders ⌝ }
+// What is to be written of a card, and the place behind it.
+fn put(writes: Writes, out: &mut [u8], at: usize, answer: Answer) -> usize
+    requires { ⌜ at + mostOf writes ≤ length (now out) ⌝ }
+    ensures { λ r. ⌜ Wrote (now (out .entry)) (now (out .exit)) at r (textOf writes answer) ⌝ }
+    ensures { λ r. ⌜ r ≤ at + mostOf writes ⌝ }
 {
-    let mut leaders = farthest::no_leaders();
-    let mut last = 0u32;
-    let mut place = 0usize;
-    while place < count {
-        let answered = answer_at(cards, place, last);
-        let Answered::Is(answer) = answered else {
-            return Outcome::Refused(refusal_of(answered), place as u32);
-        };
-        leaders = farthest::lead(leaders, answer);
-        last = answer.number;
-        place += 1;
+    match writes {
+        Writes::Nothing => at,
+        Writes::Answers => {
+            encode::put_answer(out, at, answer);
+            at + 16
+        }
+        Writes::Lines => lines::put_card_line(out, at, answer),
     }
-    Outcome::Accepted(leaders)
 }
 
-// The walk that writes the answers too, sixteen bytes a card. It stops at a card that has none.
-pub fn survey_and_fill(cards: &[u8], count: usize, out: &mut [u8]) -> Outcome
-    requires { ⌜ (count ≤ 2000) × (24 * count ≤ length (now cards)) × (16 * count ≤ length (now out)) ⌝ }
-    ensures { λ r. ⌜ r ≡ surveyFrom count 0 0 (now (cards .entry)) noLeaders ⌝ }
-    ensures { λ r. ⌜ now (out .exit) ≡ fillFrom count 0 0 (now (cards .entry)) (now (out .entry)) ⌝ }
+// The walk, from the running values on up to a place. It stops at the first card that is refused.
+pub fn along(cards: &[u8], from: Running, to: usize, writes: Writes, out: &mut [u8]) -> Walked
+    requires { ⌜ (to ≤ 2000) × (24 * to ≤ length (now cards)) × (from .place ≤ to) × (mostOf writes * to ≤ length (now out)) ⌝ }
+    ensures { λ r. ⌜ r ≡ walkFrom writes (to - from .place) from 0 (drop (24 * from .place) (now (cards .entry))) ⌝ }
+    ensures { λ r. ⌜ now (out .exit) ≡ sets (now (out .entry)) 0 (textFrom writes (to - from .place) from (drop (24 * from .place) (now (cards .entry)))) ⌝ }
+    ensures { λ r. ⌜ Within (mostOf writes * to) r ⌝ }
 {
-    let mut leaders = farthest::no_leaders();
-    let mut last = 0u32;
-    let mut place = 0usize;
-    while place < count {
-        let answered = answer_at(cards, place, last);
-        let Answered::Is(answer) = answered else {
-            return Outcome::Refused(refusal_of(answered), place as u32);
-        };
-        encode::put_answer(out, 16 * place, answer);
-        leaders = farthest::lead(leaders, answer);
-        last = answer.number;
-        place += 1;
+    let mut running = from;
+    let mut at = 0usize;
+    while running.place < to {
+        let stepped = step_at(cards, running);
+        match stepped {
+            Stepped::On(next, answer) => {
+                at = put(writes, out, at, answer);
+                running = next;
+            }
+            Stepped::Refused(refusal, place) => {
+                return Walked::Refused(refusal, place);
+            }
+        }
     }
-    Outcome::Accepted(leaders)
+    Walked::On(running, at)
+}
+
+// The walk through all cards of a register.
+pub fn through(cards: &[u8], count: usize, writes: Writes, out: &mut [u8]) -> Walked
+    requires { ⌜ (count ≤ 2000) × (24 * count ≤ length (now cards)) × (mostOf writes * count ≤ length (now out)) ⌝ }
+    ensures { λ r. ⌜ r ≡ walkFrom writes count beforeCards 0 (now (cards .entry)) ⌝ }
+    ensures { λ r. ⌜ now (out .exit) ≡ sets (now (out .entry)) 0 (textFrom writes count beforeCards (now (cards .entry))) ⌝ }
+    ensures { λ r. ⌜ Within (mostOf writes * count) r ⌝ }
+{
+    along(cards, start(), count, writes, out)
+}
+
+// The end of a walk through all cards as a call's answer.
+pub fn outcome_of(walked: Walked) -> Outcome
+    ensures { λ r. ⌜ r ≡ endOf walked ⌝ }
+{
+    match walked {
+        Walked::On(running, _) => {
+            let leaders = running.leaders;
+            Outcome::Accepted(leaders)
+        }
+        Walked::Refused(refusal, place) => Outcome::Refused(refusal, place),
+    }
 }

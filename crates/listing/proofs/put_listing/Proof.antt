@@ -8,14 +8,14 @@ use Rattle.listing.proofs.put_listing.Tie as tie
 outcome-of-requires : tie.Need-outcome-of-requires
 outcome-of-requires c κs = search needs
 
-enum-known-outcome : tie.Need-enum-known-outcome
-enum-known-outcome c = search needs
+enum-told : tie.Need-enum-told
+enum-told c = search needs
 
 put-accepted-requires : tie.Need-put-accepted-requires
 put-accepted-requires c κs = search (accepted-is, needs)
 
-enum-known-outcome-2 : tie.Need-enum-known-outcome-2
-enum-known-outcome-2 c = search needs
+enum-known-outcome : tie.Need-enum-known-outcome
+enum-known-outcome c = search needs
 
 number-requires : tie.Need-number-requires
 number-requires c κs = search needs
@@ -40,9 +40,9 @@ put-listing-spec =
     tie.close
     (tie.spec
     outcome-of-requires
-    enum-known-outcome
+    enum-told
     put-accepted-requires
-    enum-known-outcome-2
+    enum-known-outcome
     number-requires
     put-refused-requires
     same-length

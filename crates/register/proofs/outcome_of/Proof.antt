@@ -1,6 +1,6 @@
 -- `register::outcome_of` meets its contract: the refusal of the header, or what the walk that writes nothing gives.
 -- Assumes nothing.
-use Rattle.register.specs.Laws.{header-refused, header-surveyed, good}
+use Rattle.register.specs.Laws.{header-refused, header-good, good}
 use borrow.Author.Needs.{needs}
 use Rattle.register.proofs.outcome_of.Statement.{statement}
 use Rattle.register.proofs.outcome_of.Tie as tie
@@ -20,20 +20,20 @@ header-refusal-requires c κs = search needs
 returns : tie.Need-returns
 returns c = search (header-refused, needs)
 
-sub-survey : tie.Need-sub-survey
-sub-survey c = search (good, needs)
+sub-ask : tie.Need-sub-ask
+sub-ask c = search (good, needs)
 
-part-survey-start : tie.Need-part-survey-start
-part-survey-start c = search (good, needs)
+part-ask-start : tie.Need-part-ask-start
+part-ask-start c = search (good, needs)
 
-part-survey-end : tie.Need-part-survey-end
-part-survey-end c = search needs
+part-ask-end : tie.Need-part-ask-end
+part-ask-end c = search needs
 
-survey-requires : tie.Need-survey-requires
-survey-requires c κs = search (good, needs)
+ask-requires : tie.Need-ask-requires
+ask-requires c κs = search (good, needs)
 
 returns-2 : tie.Need-returns-2
-returns-2 c = search (header-surveyed, needs)
+returns-2 c = search (header-good, needs)
 
 pub outcome-of-spec : {M : Type 1} → statement M
 outcome-of-spec =
@@ -44,8 +44,8 @@ outcome-of-spec =
     enum-told
     header-refusal-requires
     returns
-    sub-survey
-    part-survey-start
-    part-survey-end
-    survey-requires
+    sub-ask
+    part-ask-start
+    part-ask-end
+    ask-requires
     returns-2)
