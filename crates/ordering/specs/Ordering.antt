@@ -18,7 +18,7 @@ use Rattle.ordering.specs.Claim.{cardAt, Accepts, farthestIn, Covered, R
 use Rattle.ordering.specs.Found.{found, from-card, to-card}
 
 -- a class's farthest card in a result is that of the answers
-in-result : (c : Class) (xs : List Answer) {l : Leaders} → leadersOf xs ≡ l → farthestOf c xs ≡ farthestIn c l
+pub in-result : (c : Class) (xs : List Answer) {l : Leaders} → leadersOf xs ≡ l → farthestOf c xs ≡ farthestIn c l
 in-result class.Toxic xs e = sym (leaders-toxic xs) ∙ ap (λ (l : Leaders). l .toxic) e
 in-result class.Flammable xs e = sym (leaders-flammable xs) ∙ ap (λ (l : Leaders). l .flammable) e
 

@@ -1,0 +1,4 @@
+pub mod Prefix
+pub mod Claim
+pub mod Cut
+pub mod Kept
