@@ -23,22 +23,31 @@ pub card-word : (f : Farthest) (number miles : ℕ) (d : Miles) → f ≡ farthe
 unfolding wordOf
 card-word f number miles d q g = ap (λ n. number * 65_536 + n) g ∙ ap wordOf (sym q)
 
-module _ (x y : Outcome) (e : x ≡ y) where
-  pub accepted-code : (l : Leaders) → x ≡ outcome.Accepted l → 0 ≡ codeOf y
+-- ---- an outcome: the two cases, and the three words of a call
+
+module _ (x : Outcome) where
+  pub accepted-code : (l : Leaders) → x ≡ outcome.Accepted l → 0 ≡ codeOf x
   unfolding codeOf
-  accepted-code l q = ap codeOf (sym q ∙ e)
+  accepted-code l q = ap codeOf (sym q)
 
-  pub refused-code : (r : Refusal) (place n : ℕ) → x ≡ outcome.Refused r place → n ≡ refusalCode r place → n ≡ codeOf y
+  pub refused-code : (r : Refusal) (place n : ℕ) → x ≡ outcome.Refused r place → n ≡ refusalCode r place → n ≡ codeOf x
   unfolding codeOf
-  refused-code r place n q g = g ∙ ap codeOf (sym q ∙ e)
+  refused-code r place n q g = g ∙ ap codeOf (sym q)
 
-  pub accepted-word : (c : Class) (l : Leaders) (n before : ℕ) → x ≡ outcome.Accepted l → n ≡ wordOf (leaderOf c l) → n ≡ wordAfter c y before
+  pub accepted-word : (c : Class) (l : Leaders) (n before : ℕ) → x ≡ outcome.Accepted l → n ≡ wordOf (leaderOf c l) → n ≡ wordAfter c x before
   unfolding wordAfter
-  accepted-word c l n before q g = g ∙ ap (λ o. wordAfter c o before) (sym q ∙ e)
+  accepted-word c l n before q g = g ∙ ap (λ o. wordAfter c o before) (sym q)
 
-  pub refused-word : (c : Class) (r : Refusal) (place before : ℕ) → x ≡ outcome.Refused r place → before ≡ wordAfter c y before
+  pub refused-word : (c : Class) (r : Refusal) (place before : ℕ) → x ≡ outcome.Refused r place → before ≡ wordAfter c x before
   unfolding wordAfter
-  refused-word c r place before q = ap (λ o. wordAfter c o before) (sym q ∙ e)
+  refused-word c r place before q = ap (λ o. wordAfter c o before) (sym q)
+
+module _ (x y : Outcome) (e : x ≡ y) (n : ℕ) where
+  pub told-code : n ≡ codeOf x → n ≡ codeOf y
+  told-code g = g ∙ ap codeOf e
+
+  pub told-word : (c : Class) (before : ℕ) → n ≡ wordAfter c x before → n ≡ wordAfter c y before
+  told-word c before g = g ∙ ap (λ o. wordAfter c o before) e
 
 -- ---- a conversion: the two cases, and the two words of a call
 

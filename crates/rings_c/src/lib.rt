@@ -1,5 +1,5 @@
-// The register behind a C interface: one call that answers it, whose result and two farthest cards are words, and two that read
-// it from comma lines and write it as such, each with one word beside its result.
+// The register behind a C interface: a call that answers it and one that tells the leaders after its first cards, whose result and
+// two farthest cards are words; and two that read it from comma lines and write it as such, each with one word beside its result.
 use comma::Converted;
 use farthest::Farthest;
 use refusals::Refusal;
@@ -8,6 +8,7 @@ ghost use mathlib.Core.Path.{_≡_};
 ghost use lib.ListN.{length};
 ghost use Rattle.card.specs.declared.Class.the-variants.{Toxic, Flammable};
 ghost use Rattle.register.specs.Register.{outcomeOf, bufferOf};
+ghost use Rattle.prefix.specs.Prefix.{prefixOf};
 ghost use Rattle.comma.specs.Text.{readingOf, readInto};
 ghost use Rattle.write_lines.specs.Writing.{writingOf, writeInto};
 ghost use Rattle.rings_c.specs.Words.{wordOf, refusalCode, codeOf, wordAfter, conversionCode, conversionAt};
@@ -33,6 +34,24 @@ fn code_of(refusal: Refusal, place: u32) -> u64
     number * 4_294_967_296 + place as u64
 }
 
+// An outcome by words: on acceptance 0 and the two farthest cards, on a refusal its word, and the two are left alone.
+fn tell(outcome: Outcome, toxic: &mut u64, flammable: &mut u64) -> u64
+    ensures { λ r. ⌜ r ≡ codeOf outcome ⌝ }
+    ensures { λ _. ⌜ now (toxic .exit) ≡ wordAfter Toxic outcome (now (toxic .entry)) ⌝ }
+    ensures { λ _. ⌜ now (flammable .exit) ≡ wordAfter Flammable outcome (now (flammable .entry)) ⌝ }
+{
+    match outcome {
+        Outcome::Accepted(leaders) => {
+            let first = leaders.toxic;
+            let second = leaders.flammable;
+            *toxic = word_of(first);
+            *flammable = word_of(second);
+            0
+        }
+        Outcome::Refused(refusal, place) => code_of(refusal, place),
+    }
+}
+
 // Answers a register into a lent buffer. On acceptance 0 is returned and the two words are set; on a refusal its word is
 // returned, and neither a word nor a byte changes.
 #[no_mangle]
@@ -48,16 +67,23 @@ pub extern "C" fn rings_answer(
     ensures { λ _. ⌜ now (flammable .exit) ≡ wordAfter Flammable (outcomeOf (now (register .entry)) (length (now (answers .entry)))) (now (flammable .entry)) ⌝ }
 {
     let outcome = register::fill(register, answers);
-    match outcome {
-        Outcome::Accepted(leaders) => {
-            let first = leaders.toxic;
-            let second = leaders.flammable;
-            *toxic = word_of(first);
-            *flammable = word_of(second);
-            0
-        }
-        Outcome::Refused(refusal, place) => code_of(refusal, place),
-    }
+    tell(outcome, toxic, flammable)
+}
+
+// Tells the leaders after the first cards of a register, by the words of the call above. Beyond the count the first cards are all.
+#[no_mangle]
+pub extern "C" fn rings_leaders_after(
+    register: &[u8],
+    cards: usize,
+    toxic: &mut u64,
+    flammable: &mut u64,
+) -> u64
+    ensures { λ r. ⌜ r ≡ codeOf (prefixOf (now (register .entry)) cards) ⌝ }
+    ensures { λ _. ⌜ now (toxic .exit) ≡ wordAfter Toxic (prefixOf (now (register .entry)) cards) (now (toxic .entry)) ⌝ }
+    ensures { λ _. ⌜ now (flammable .exit) ≡ wordAfter Flammable (prefixOf (now (register .entry)) cards) (now (flammable .entry)) ⌝ }
+{
+    let outcome = prefix::leaders_after(register, cards);
+    tell(outcome, toxic, flammable)
 }
 
 // What a conversion returns: 0, or the number of its refusal.
