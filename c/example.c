@@ -1,5 +1,6 @@
 /*
- * Prints the answers of a register: of the file that is named, or of the three cards of document 01.
+ * Prints the answers of a register: of the file that is named, or of the three cards of document 01. A line a card, the
+ * farthest toxic card, the farthest flammable one; then who led after no card, after the first, and so on to the last.
  *
  *     rt staticlib rings_c
  *     gcc -std=c11 -Wall -Wextra -O2 c/example.c target/staticlib/librings_c.a -o target/example && target/example [FILE]
@@ -34,12 +35,25 @@ static void print_answer(const uint8_t *answer) {
            card, answer[4], answer[5], rate / 1000, rate % 1000, miles / 100, miles % 100);
 }
 
-static void print_farthest(char class, uint64_t word) {
+static void print_farthest(char class, uint64_t word, const char *end) {
     uint64_t card = word >> 16, miles = word & 0xffff;
     if (word == 0)
-        printf("%c none\n", class);
+        printf("%c none%s", class, end);
     else
-        printf("%c %" PRIu64 " %" PRIu64 ".%02" PRIu64 "\n", class, card, miles / 100, miles % 100);
+        printf("%c %" PRIu64 " %" PRIu64 ".%02" PRIu64 "%s", class, card, miles / 100, miles % 100, end);
+}
+
+/*
+ * Who led after 0, 1, 2 .. cards of an accepted register, so that no call is refused.
+ */
+static void print_leaders(const uint8_t *bytes, size_t length, size_t cards) {
+    for (size_t first = 0; first <= cards; first++) {
+        uint64_t toxic, flammable;
+        rings_leaders_after(bytes, length, first, &toxic, &flammable);
+        printf("after %zu: ", first);
+        print_farthest('T', toxic, ", ");
+        print_farthest('F', flammable, "\n");
+    }
 }
 
 int main(int argc, char **argv) {
@@ -69,7 +83,8 @@ int main(int argc, char **argv) {
     }
     size_t cards = (length - RINGS_HEADER_LEN) / RINGS_CARD_LEN;
     for (size_t i = 0; i < cards; i++) print_answer(answers + i * RINGS_ANSWER_LEN);
-    print_farthest('T', toxic);
-    print_farthest('F', flammable);
+    print_farthest('T', toxic, "\n");
+    print_farthest('F', flammable, "\n");
+    print_leaders(bytes, length, cards);
     return 0;
 }

@@ -1,6 +1,6 @@
 /*
  * The ring register: worst-case distances of a register of cards, read from the tables of the EPA's guidance, and
- * registers from comma lines and back. Three calls, proved in crates/rings_c; link target/staticlib/librings_c.a
+ * registers from comma lines and back. Four calls, proved in crates/rings_c; link target/staticlib/librings_c.a
  * (written by `rt staticlib rings_c`).
  */
 #ifndef RINGS_H
@@ -73,6 +73,27 @@ enum rings_refusal {
 uint64_t rings_answer(const uint8_t *register_ptr, size_t register_len,
                       uint8_t *answers_ptr, size_t answers_len,
                       uint64_t *toxic, uint64_t *flammable);
+
+/*
+ * The leaders of a register after its first cards: the farthest toxic and the farthest flammable card among those, the
+ * earlier one on a tie.
+ *
+ * register_ptr   the register's first byte; it is only read.
+ * register_len   its length in bytes; no length is too long or too short to be handed in.
+ * cards          how many cards, counted from the first. After 0 there are no leaders; at the register's count and
+ *                beyond it, up to SIZE_MAX, they are the farthest that rings_answer gives.
+ * toxic          set to the farthest toxic card among them: 0 for none, else card number x 65,536 + hundredths of a mile.
+ * flammable      the same of the farthest flammable card.
+ *
+ * Returns 0 if the register is accepted. A refusal is the one that rings_answer gives for the register, but never
+ * RINGS_BUFFER, wherever its card stands, behind the first cards too: its number x 2^32 + the card's place, counted from 0.
+ * It changes neither word.
+ *
+ * For pointers, overlaps and threads the rules of rings_answer hold.
+ */
+uint64_t rings_leaders_after(const uint8_t *register_ptr, size_t register_len,
+                             size_t cards,
+                             uint64_t *toxic, uint64_t *flammable);
 
 /*
  * Reads comma lines into a register of version 1.

@@ -1,6 +1,6 @@
 #!/usr/bin/env bash
-# Compiles the C programs against the proved archive. What the example prints is compared with the listings, and the comma
-# lines of the examples are read into their registers and written from them.
+# Compiles the C programs against the proved archive. What the example prints is compared with the listings and the leaders,
+# and the comma lines of the examples are read into their registers and written from them.
 set -euo pipefail
 cd "$(dirname "$0")/.."
 for program in example lines; do
@@ -24,15 +24,18 @@ refused() {
     diff target/c-error <(echo "$refusal")
 }
 
-for register in examples/document-01 examples/empty examples/plating-shop; do
-    target/c-example "$register.register" | diff - "$register.listing"
+for leaders in examples/*.leaders; do
+    name=${leaders%.leaders}
+    target/c-example "$name.register" | diff - <(cat "$name.listing" "$leaders")
 done
+# the cards that the example has in itself are document 01's
+target/c-example | diff - <(cat examples/document-01.listing examples/document-01.leaders)
 # a register that is sent back ends the example with status 1
 status=0
 target/c-example examples/refused.register >target/c-listing || status=$?
 test "$status" = 1
 diff target/c-listing examples/refused.listing
-echo "the C example prints the listings that are stored"
+echo "the C example prints the listings and the leaders of $(ls examples/*.leaders | wc -l) examples as stored"
 
 # lines into the register, the register into lines in strict form, and those into the register again
 for register in examples/*.register; do

@@ -12,6 +12,13 @@ mod c {
             toxic: *mut u64,
             flammable: *mut u64,
         ) -> u64;
+        pub fn rings_leaders_after(
+            register_ptr: *const u8,
+            register_len: usize,
+            cards: usize,
+            toxic: *mut u64,
+            flammable: *mut u64,
+        ) -> u64;
         pub fn rings_read_lines(
             text_ptr: *const u8,
             text_len: usize,
@@ -32,10 +39,8 @@ mod c {
 /// Answers a register into `out`, as [`crate::reference::answer`] does.
 pub fn answer(register: &[u8], out: &mut [u8]) -> Result<Accepted, Refused> {
     let (mut toxic, mut flammable) = (0, 0);
-    match answer_words(register, out, &mut toxic, &mut flammable) {
-        0 => Ok(Accepted { toxic: farthest(toxic), flammable: farthest(flammable) }),
-        refusal => Err(refused(refusal)),
-    }
+    let code = answer_words(register, out, &mut toxic, &mut flammable);
+    accepted(code, toxic, flammable)
 }
 
 /// The call as C sees it, for tests that look at its words: 0 or a refusal is returned, and the two words are those of
@@ -45,6 +50,20 @@ pub fn answer_words(register: &[u8], out: &mut [u8], toxic: &mut u64, flammable:
     // SAFETY: each pointer comes from a live slice or reference of the length passed beside it, the writable ones are
     // borrowed mutably and so overlap with nothing, and the library keeps none of them after it returns.
     unsafe { c::rings_answer(register.as_ptr(), register.len(), out.as_mut_ptr(), out.len(), toxic, flammable) }
+}
+
+/// The farthest cards among the first `cards` of a register, as [`crate::reference::leaders_after`] gives them.
+pub fn leaders_after(register: &[u8], cards: usize) -> Result<Accepted, Refused> {
+    let (mut toxic, mut flammable) = (0, 0);
+    let code = leaders_after_words(register, cards, &mut toxic, &mut flammable);
+    accepted(code, toxic, flammable)
+}
+
+/// The call as C sees it, with the words of [`answer_words`].
+#[allow(unsafe_code)]
+pub fn leaders_after_words(register: &[u8], cards: usize, toxic: &mut u64, flammable: &mut u64) -> u64 {
+    // SAFETY: as in `answer_words`. The number of cards is no length of a buffer, and the library admits any.
+    unsafe { c::rings_leaders_after(register.as_ptr(), register.len(), cards, toxic, flammable) }
 }
 
 /// Reads comma lines into `register`, as [`crate::reference::read_lines`] does.
@@ -76,9 +95,12 @@ pub fn write_lines_words(register: &[u8], text: &mut [u8], at: &mut u64) -> u64 
     unsafe { c::rings_write_lines(register.as_ptr(), register.len(), text.as_mut_ptr(), text.len(), at) }
 }
 
-/// A refusal's word is its number × 2^32 + its place.
-fn refused(word: u64) -> Refused {
-    Refused { number: (word >> 32) as u8, place: word & 0xffff_ffff }
+/// An answer's three words: 0 and those of the farthest cards, or a refusal's number × 2^32 + its place.
+fn accepted(code: u64, toxic: u64, flammable: u64) -> Result<Accepted, Refused> {
+    match code {
+        0 => Ok(Accepted { toxic: farthest(toxic), flammable: farthest(flammable) }),
+        refusal => Err(Refused { number: (refusal >> 32) as u8, place: refusal & 0xffff_ffff }),
+    }
 }
 
 /// A conversion's two words: 0 and the bytes written, which a slice held, or a refusal's number and its place.

@@ -106,6 +106,16 @@ pub fn answer(register: &[u8], out: &mut [u8]) -> Result<Accepted, Refused> {
     Ok(farthest(&answers))
 }
 
+/// The farthest card of each class among the first `cards` cards of a register, or among all where it has no more.
+///
+/// The cards behind those are checked too, so a register is refused whatever number is asked for. No answer buffer is
+/// lent, and none can be too short.
+pub fn leaders_after(register: &[u8], cards: usize) -> Result<Accepted, Refused> {
+    let answers = card_bytes(register).and_then(answers)?;
+    let first = &answers[..cards.min(answers.len())];
+    Ok(Accepted { toxic: leader(first, Class::Toxic), flammable: leader(first, Class::Flammable) })
+}
+
 /// The text that the listing program prints for a register.
 pub fn listing(register: &[u8]) -> String {
     if register.len() > MAX_LEN {
@@ -214,6 +224,15 @@ fn farthest(answers: &[Answer]) -> Accepted {
         }
         leaders
     })
+}
+
+/// The class's largest distance, then the first card that has it: a second opinion on [`farthest`], which keeps leaders
+/// on one walk as the proved library does.
+fn leader(answers: &[Answer], class: Class) -> Option<Farthest> {
+    let of_class = || answers.iter().filter(|answer| answer.class == class);
+    let miles = of_class().map(|answer| answer.miles).max()?;
+    let first = of_class().find(|answer| answer.miles == miles)?;
+    Some(Farthest { card: first.number, miles: miles.hundredths() })
 }
 
 fn list(answers: &[Answer]) -> String {

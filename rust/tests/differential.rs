@@ -2,9 +2,11 @@
 //!
 //! Every byte of the lent buffer, of the bytes around it and of the two farthest words is compared, on acceptance and
 //! on refusal. Then each register is written as comma lines, with the same care, and the lines of an accepted one are
-//! read back. Run with `cargo test --release --test differential -- --nocapture` to see the counts.
+//! read back. The leaders after the first cards are compared in `prefixes`, on other registers made in the same ways.
+//! Run with `cargo test --release --test differential -- --nocapture` to see the counts.
 
 mod lent;
+mod prefixes;
 
 use lent::{hex, Lent, READ_LINES, WRITE_LINES};
 use rings_second::proved;

@@ -1,7 +1,8 @@
-//! Document 01's listing, refusals and cards to try, the solutions of document 02, and the guidance's own examples.
+//! Document 01's listing, refusals and cards to try, the solutions and the leaders of document 02, and the guidance's own
+//! examples.
 
-use super::{answer, listing, Accepted, Farthest, Refused, ANSWER_LEN, MAX_CARDS, MAX_LEN};
-use crate::samples::{register, Card};
+use super::{answer, leaders_after, listing, Accepted, Farthest, Refused, ANSWER_LEN, CARD_LEN, MAX_CARDS, MAX_LEN};
+use crate::samples::{accepted_register, register, Card, Rng};
 
 const AMMONIA: u32 = 7_664_417;
 const BROMINE: u32 = 7_726_956;
@@ -223,6 +224,78 @@ fn the_checks_of_a_solution_come_in_their_order() {
 fn no_cards_are_accepted() {
     assert_eq!(answer(&register(&[]), &mut []), Ok(Accepted::default()));
     assert_eq!(listing(&register(&[])), "T none\nF none\n");
+}
+
+/// The leaders after each of these numbers of cards, which are numbered from 1: the toxic and the flammable one's card
+/// number and hundredths of a mile.
+fn leaders(cards: &[Card], after: impl IntoIterator<Item = usize>) -> Vec<[Option<(u32, u16)>; 2]> {
+    let cards: Vec<Card> = cards.iter().zip(1..).map(|(card, number)| numbered(*card, number)).collect();
+    let bytes = register(&cards);
+    let pair = |farthest: Option<Farthest>| farthest.map(|Farthest { card, miles }| (card, miles));
+    let leaders = |cards| leaders_after(&bytes, cards).expect("an accepted register");
+    after.into_iter().map(leaders).map(|accepted| [pair(accepted.toxic), pair(accepted.flammable)]).collect()
+}
+
+#[test]
+fn the_leaders_are_kept_card_by_card() {
+    let rising = [chlorine(RURAL, 2_249), chlorine(RURAL, 2_250)];
+    assert_eq!(leaders(&rising, 0..=2), [[None, None], [Some((1, 300)), None], [Some((2, 340)), None]]);
+    let falling = [chlorine(RURAL, 2_250), chlorine(RURAL, 2_249)];
+    assert_eq!(leaders(&falling, 0..=2), [[None, None], [Some((1, 340)), None], [Some((1, 340)), None]]);
+    let propanes = [flammable(PROPANE, 20_000), flammable(PROPANE, 20_001)];
+    assert_eq!(leaders(&propanes, 0..=2), [[None, None], [None, Some((1, 20))], [None, Some((2, 30))]]);
+}
+
+#[test]
+fn the_earlier_card_leads_on_a_tie() {
+    // 3.40 miles by two routes and tables, and 0.20 for two quantities.
+    let (gas, pool) = (chlorine(RURAL, 2_250), diked(bromine(), 100, 100));
+    for cards in [[gas, pool, gas], [pool, gas, pool]] {
+        assert_eq!(leaders(&cards, 1..=3), [[Some((1, 340)), None]; 3]);
+    }
+    let propanes = [flammable(PROPANE, 10_000), flammable(PROPANE, 20_000)];
+    assert_eq!(leaders(&propanes, 1..=2), [[None, Some((1, 20))]; 2]);
+    // Overtaken by two that tie: the first of these.
+    let overtaken = [chlorine(RURAL, 2_249), gas, pool];
+    assert_eq!(leaders(&overtaken, 2..=3), [[Some((2, 340)), None]; 2]);
+}
+
+#[test]
+fn a_class_leads_by_itself() {
+    let between = [in_building(bromine(), 100), flammable(PROPANE, 20_001), chlorine(RURAL, 2_249)];
+    let (shed, propane, gas) = (Some((1, 40)), Some((2, 30)), Some((3, 300)));
+    assert_eq!(leaders(&between, 0..=3), [[None, None], [shed, None], [shed, propane], [gas, propane]]);
+}
+
+#[test]
+fn beyond_the_count_all_cards_are_the_first() {
+    const FAR: [usize; 5] = [4, 1 << 16, 1 << 32, usize::MAX / CARD_LEN + 1, usize::MAX];
+    let whole = answer(&example(), &mut [0; 3 * ANSWER_LEN]);
+    assert_eq!(leaders_after(&example(), 3), whole);
+    for cards in FAR {
+        assert_eq!(leaders_after(&example(), cards), whole);
+        assert_eq!(leaders_after(&register(&[]), cards), Ok(Accepted::default()));
+    }
+}
+
+#[test]
+fn a_refused_register_has_no_leaders() {
+    let second_lacks_pounds = register(&[chlorine(RURAL, 1), numbered(chlorine(RURAL, 0), 2)]);
+    let other_version = [0, 0, 0, 7, 2, 0, 0];
+    for cards in [0, 1, 2, 3, usize::MAX] {
+        assert_eq!(leaders_after(&second_lacks_pounds, cards), Err(Refused { number: 8, place: 1 }));
+        assert_eq!(leaders_after(&other_version, cards), Err(Refused { number: 2, place: 0 }));
+    }
+}
+
+/// The two ways of this implementation to find the farthest.
+#[test]
+fn the_leaders_after_all_cards_are_the_farthest() {
+    let mut rng = Rng::new(4);
+    for count in (0..40).chain([MAX_CARDS]) {
+        let bytes = accepted_register(&mut rng, count);
+        assert_eq!(leaders_after(&bytes, count), answer(&bytes, &mut vec![0; count * ANSWER_LEN]));
+    }
 }
 
 #[test]

@@ -10,6 +10,7 @@ const PATTERN: [u8; 7] = [0xa5, 0x5a, 0xff, 0x00, 0x2c, 0x30, 0x0a];
 pub struct Implementation {
     pub name: &'static str,
     answer: fn(&[u8], &mut [u8]) -> Result<Accepted, Refused>,
+    leaders_after: fn(&[u8], usize) -> Result<Accepted, Refused>,
     read_lines: fn(&[u8], &mut [u8]) -> Result<usize, Refused>,
     write_lines: fn(&[u8], &mut [u8]) -> Result<usize, Refused>,
 }
@@ -18,6 +19,7 @@ pub static IMPLEMENTATIONS: &[Implementation] = &[
     Implementation {
         name: "the reference",
         answer: reference::answer,
+        leaders_after: reference::leaders_after,
         read_lines: reference::read_lines,
         write_lines: reference::write_lines,
     },
@@ -25,6 +27,7 @@ pub static IMPLEMENTATIONS: &[Implementation] = &[
     Implementation {
         name: "the proved library",
         answer: proved::answer,
+        leaders_after: proved::leaders_after,
         read_lines: proved::read_lines,
         write_lines: proved::write_lines,
     },
@@ -40,6 +43,11 @@ impl Implementation {
             Ok(needed)
         })?;
         Ok((bytes, accepted))
+    }
+
+    /// The farthest cards among the first so many of a register.
+    pub fn leaders_after(&self, register: &[u8], cards: usize) -> Result<Accepted, Refused> {
+        (self.leaders_after)(register, cards)
     }
 
     /// The register that a text is read into, in a buffer of a length.

@@ -1,7 +1,8 @@
 //! The comma lines of `tests/lines.txt`; the README beside it tells its form.
 
+use crate::forms::{card, hex_bytes, nibble, number, refusal};
 use crate::implementations::{Implementation, IMPLEMENTATIONS};
-use rings_second::reference::{Refused, CARD_LEN, HEADER_LEN, MAX_CARDS, MAX_LEN, MAX_STRICT_LINE};
+use rings_second::reference::{CARD_LEN, HEADER_LEN, MAX_CARDS, MAX_LEN, MAX_STRICT_LINE};
 use rings_second::samples::{register, Card, SOLUTION};
 
 const CASES: &str = include_str!("../../../tests/lines.txt");
@@ -87,10 +88,7 @@ impl Case {
                 by.lines_of(&register, self.room).map(|text| text_lines(&text))
             }
         };
-        match result {
-            Ok(lines) => lines,
-            Err(Refused { number, place }) => vec![format!("refused {number} at {place}")],
-        }
+        result.unwrap_or_else(|refused| vec![refusal(refused)])
     }
 }
 
@@ -142,25 +140,6 @@ fn text_lines(text: &[u8]) -> Vec<String> {
     }
 }
 
-/// A card of ten numbers, the CAS number without hyphens.
-fn card(line: &str) -> Card {
-    let fields: Vec<i64> = line.split(' ').map(|field| field.parse().expect("a number")).collect();
-    let &[kind, state, ground, containment, cas, pounds, area, wall, tenths, number] = fields.as_slice() else {
-        panic!("ten numbers make a card: {line}");
-    };
-    let [kind, state, ground, containment] = [kind, state, ground, containment].map(narrow);
-    let [cas, pounds, area, number] = [cas, pounds, area, number].map(narrow);
-    Card { kind, state, ground, containment, cas, pounds, area, wall: narrow(wall), tenths: narrow(tenths), number }
-}
-
-fn narrow<N: TryFrom<i64>>(number: i64) -> N {
-    N::try_from(number).ok().expect("a number that fits its field")
-}
-
-fn number(digits: &str) -> usize {
-    digits.parse().expect("a number")
-}
-
 /// The bytes of a text in which `\n`, `\r`, `\t` and `\xHH` stand for one byte each.
 fn unescaped(text: &str) -> Vec<u8> {
     let mut bytes = Vec::new();
@@ -183,13 +162,4 @@ fn unescaped(text: &str) -> Vec<u8> {
         }
     }
     bytes
-}
-
-fn hex_bytes(text: &str) -> Vec<u8> {
-    let digits: Vec<u8> = text.bytes().filter(|byte| *byte != b' ').map(nibble).collect();
-    digits.chunks_exact(2).map(|pair| 16 * pair[0] + pair[1]).collect()
-}
-
-fn nibble(digit: u8) -> u8 {
-    char::from(digit).to_digit(16).expect("a hexadecimal digit") as u8
 }

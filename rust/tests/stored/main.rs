@@ -1,8 +1,11 @@
-//! Both implementations held against stored answers: `../tests/vectors` and `../tests/lines.txt`.
+//! Both implementations held against stored answers: `../tests/vectors`, `../tests/lines.txt` and
+//! `../tests/prefixes.txt`.
 //!
 //! Without the feature `proved` the reference is held against them alone. Run with
 //! `cargo test --release --test stored -- --nocapture` to see how many lines and cases there are.
 
+mod forms;
 mod implementations;
 mod lines;
+mod prefixes;
 mod vectors;

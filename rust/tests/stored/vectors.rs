@@ -5,11 +5,13 @@ use rings_second::reference::{Accepted, Farthest, Refused};
 use std::fs;
 use std::path::Path;
 
-/// The result of an implementation in the words of a file, from the input's bytes and the length of the buffer.
+/// The result of an implementation in the words of a file, from the input's bytes and the number beside them: the length
+/// of the buffer, or how many cards.
 type Answer = fn(&Implementation, &[u8], usize) -> String;
 
 /// The files, and what an implementation says to their lines.
-const FILES: [(&str, Answer); 3] = [
+const FILES: [(&str, Answer); 4] = [
+    ("prefix.tsv", |by, register, cards| led(by.leaders_after(register, cards))),
     ("read.tsv", |by, text, room| converted(by.register_of(text, room))),
     ("register.tsv", |by, register, room| answered(by.answers(register, room))),
     ("write.tsv", |by, register, room| converted(by.lines_of(register, room))),
@@ -41,12 +43,12 @@ fn compare(file: &Path, answer: Answer) -> usize {
     let text = fs::read_to_string(file).expect("a file of vectors");
     for (line, number) in text.lines().zip(1..) {
         let columns: Vec<_> = line.split('\t').collect();
-        let &[input, room, expected] = columns.as_slice() else {
+        let &[input, beside, expected] = columns.as_slice() else {
             panic!("{}, line {number}: not three columns", file.display());
         };
-        let room = room.parse().expect("a length");
+        let beside = beside.parse().expect("a length, or how many cards");
         for implementation in IMPLEMENTATIONS {
-            let met = answer(implementation, &bytes(input), room);
+            let met = answer(implementation, &bytes(input), beside);
             assert_eq!(met, expected, "{}, line {number}: {}", file.display(), implementation.name);
         }
     }
@@ -55,9 +57,14 @@ fn compare(file: &Path, answer: Answer) -> usize {
 
 fn answered(result: Result<(Vec<u8>, Accepted), Refused>) -> String {
     match result {
-        Ok((bytes, Accepted { toxic, flammable })) => {
-            format!("ok {} {} {}", hex(&bytes), farthest(toxic), farthest(flammable))
-        }
+        Ok((bytes, accepted)) => format!("ok {} {}", hex(&bytes), both_farthest(accepted)),
+        Err(refused) => refusal(refused),
+    }
+}
+
+fn led(result: Result<Accepted, Refused>) -> String {
+    match result {
+        Ok(accepted) => format!("ok {}", both_farthest(accepted)),
         Err(refused) => refusal(refused),
     }
 }
@@ -71,6 +78,10 @@ fn converted(result: Result<Vec<u8>, Refused>) -> String {
 
 fn refusal(Refused { number, place }: Refused) -> String {
     format!("refused {number} {place}")
+}
+
+fn both_farthest(Accepted { toxic, flammable }: Accepted) -> String {
+    format!("{} {}", farthest(toxic), farthest(flammable))
 }
 
 fn farthest(farthest: Option<Farthest>) -> String {
