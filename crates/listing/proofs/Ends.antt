@@ -15,11 +15,12 @@ use Rattle.header.specs.declared.Header.the-variants as header
 use Rattle.header.specs.Header.{enough, headerOf}
 use Rattle.walk.specs.declared.Outcome.{Outcome}
 use Rattle.walk.specs.declared.Outcome.the-variants as outcome
-use Rattle.walk.specs.declared.Running.{Running}
+use Rattle.running.specs.declared.Running.{Running}
+use Rattle.running.specs.Running.{beforeCards}
 use Rattle.walk.specs.declared.Walked.{Walked}
 use Rattle.walk.specs.declared.Walked.the-variants as walked
 use Rattle.walk.specs.declared.Writes.the-variants as writes
-use Rattle.walk.specs.Walk.{beforeCards, walkFrom, textFrom}
+use Rattle.walk.specs.Walk.{walkFrom, textFrom}
 use Rattle.walk.specs.Walk.{Within as Reached}
 use Rattle.register.specs.Register.{outcomeOf}
 use Rattle.register.specs.Walked.{passed}

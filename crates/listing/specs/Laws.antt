@@ -14,10 +14,11 @@ use Rattle.header.specs.declared.Header.the-variants as header
 use Rattle.header.specs.Header.{enough, headerOf}
 use Rattle.walk.specs.declared.Outcome.{Outcome}
 use Rattle.walk.specs.declared.Outcome.the-variants as outcome
-use Rattle.walk.specs.declared.Running.{Running}
+use Rattle.running.specs.declared.Running.{Running}
+use Rattle.running.specs.Running.{beforeCards}
 use Rattle.walk.specs.declared.Walked.the-variants as walked
 use Rattle.walk.specs.declared.Writes.the-variants as writes
-use Rattle.walk.specs.Walk.{beforeCards, textsOf, walkFrom, textFrom}
+use Rattle.walk.specs.Walk.{textsOf, walkFrom, textFrom}
 use Rattle.register.specs.Register.{Cards, answers, sent-back, cardsFrom, cardsOf, resultOf, afterHeader, outcomeOf}
 use Rattle.register.specs.Laws.{behind-header}
 use Rattle.register.specs.Walked.{Passed, passed-leaders, stopped}

@@ -14,17 +14,19 @@ use Rattle.header.specs.declared.Header.the-variants as header
 use Rattle.header.specs.Header.{enough, headerOf, headerRefusal}
 use Rattle.walk.specs.declared.Outcome.{Outcome}
 use Rattle.walk.specs.declared.Outcome.the-variants as outcome
-use Rattle.walk.specs.declared.Running.{Running}
+use Rattle.running.specs.declared.Running.{Running}
+use Rattle.running.specs.Running.{beforeCards, runningAfter}
+use Rattle.running.specs.Laws.{running-place}
 use Rattle.walk.specs.declared.Walked.{Walked}
 use Rattle.walk.specs.declared.Walked.the-variants as walked
 use Rattle.walk.specs.declared.Writes.the-variants as writes
-use Rattle.walk.specs.Walk.{beforeCards, runningAfter, walkFrom, endOf}
+use Rattle.walk.specs.Walk.{walkFrom, endOf}
 use Rattle.register.specs.Register.{Cards, answers, sent-back, cardsFrom, cardsOf}
 use Rattle.register.specs.Laws.{cards-count, behind-header}
 use Rattle.register.specs.Walked.{Passed, passed, passed-leaders, stopped}
 use Rattle.prefix.specs.Prefix.{resultAfter, resultBehind, prefixOf}
 use Rattle.prefix.specs.Claim.{Keeps}
-use Rattle.prefix.specs.Cut.{inFront, front-answers, front-sent-back, running-place, cut-answered, cut-sent-back}
+use Rattle.prefix.specs.Cut.{inFront, front-answers, front-sent-back, cut-answered, cut-sent-back}
 use Rattle.prefix.specs.Kept.{keeps, all-cards}
 
 -- ---- the two parts of the walk

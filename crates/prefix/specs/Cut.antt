@@ -12,8 +12,8 @@ use Rattle.card.specs.declared.Answer.{Answer}
 use Rattle.card.specs.declared.Answered.{Answered}
 use Rattle.card.specs.declared.Answered.the-variants as answered
 use Rattle.card.specs.Answers.{answerOf}
-use Rattle.walk.specs.declared.Running.{Running}
-use Rattle.walk.specs.Walk.{afterCard, runningAfter}
+use Rattle.running.specs.declared.Running.{Running}
+use Rattle.running.specs.Running.{afterCard, runningAfter}
 use Rattle.register.specs.Register.{Cards, answers, sent-back, joined, then, cardsFrom}
 use Rattle.register.specs.Laws.{joined-is}
 
@@ -29,12 +29,6 @@ front-answers (a ∷ xs) ys = ap (joined a) (front-answers xs ys)
 pub front-sent-back : (xs : List Answer) (r : Refusal) (place : ℕ) → inFront xs (sent-back r place) ≡ sent-back r place
 front-sent-back [] r place = refl
 front-sent-back (a ∷ xs) r place = ap (joined a) (front-sent-back xs r place)
-
--- the running place counts the cards
-pub running-place : (s : Running) (xs : List Answer) → runningAfter s xs .place ≡ s .place + length xs
-unfolding runningAfter
-running-place s [] = omega arith
-running-place s (a ∷ xs) = let z = running-place (afterCard s a) xs in omega arith
 
 -- the first cards are all answered: the others follow from the running values behind them
 pub cut-answered : (m n : ℕ) (s : Running) (bytes : List ℕ) (xs : List Answer) → cardsFrom m (s .place) (s .last) bytes ≡ answers xs

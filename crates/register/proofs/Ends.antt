@@ -18,12 +18,13 @@ use Rattle.card.specs.Answers.{answerOf}
 use Rattle.encode.specs.Bytes.{answerBytes}
 use Rattle.walk.specs.declared.Outcome.{Outcome}
 use Rattle.walk.specs.declared.Outcome.the-variants as outcome
-use Rattle.walk.specs.declared.Running.{Running}
+use Rattle.running.specs.declared.Running.{Running}
+use Rattle.running.specs.Running.{beforeCards, stepTo, stepOf}
 use Rattle.walk.specs.declared.Walked.{Walked}
 use Rattle.walk.specs.declared.Walked.the-variants as walked
 use Rattle.walk.specs.declared.Writes.{Writes}
 use Rattle.walk.specs.declared.Writes.the-variants as writes
-use Rattle.walk.specs.Walk.{beforeCards, stepTo, stepOf, textOf, textsOf, runningAfter, walkFrom, writeOn, textFrom, endOf, Within}
+use Rattle.walk.specs.Walk.{textOf, textsOf, walkFrom, writeOn, textFrom, endOf, Within}
 use Rattle.register.specs.Register.{Cards, answers, sent-back, then, cardsFrom, resultOf, bytesOf, filledWith}
 use Rattle.register.specs.Laws.{cards-count, bytes-length}
 use Rattle.register.specs.Walked.{text-is, passed, stopped, end-result}

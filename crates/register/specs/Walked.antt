@@ -12,13 +12,15 @@ use Rattle.card.specs.declared.Answer.{Answer}
 use Rattle.card.specs.declared.Answered.{Answered}
 use Rattle.card.specs.declared.Answered.the-variants as answered
 use Rattle.card.specs.Answers.{answerOf}
-use Rattle.farthest.specs.Farthest.{leadersFrom, leadersOf}
+use Rattle.farthest.specs.Farthest.{leadersOf}
 use Rattle.walk.specs.declared.Outcome.the-variants as outcome
-use Rattle.walk.specs.declared.Running.{Running}
+use Rattle.running.specs.declared.Running.{Running}
+use Rattle.running.specs.Running.{beforeCards, afterCard, stepTo, stepOf, runningAfter}
+use Rattle.running.specs.Laws.{running-leaders}
 use Rattle.walk.specs.declared.Walked.{Walked}
 use Rattle.walk.specs.declared.Walked.the-variants as walked
 use Rattle.walk.specs.declared.Writes.{Writes}
-use Rattle.walk.specs.Walk.{beforeCards, afterCard, stepTo, stepOf, textOf, runningAfter, textsOf, goOn, walkFrom, writeOn, textFrom, endOf}
+use Rattle.walk.specs.Walk.{textOf, textsOf, goOn, walkFrom, writeOn, textFrom, endOf}
 use Rattle.register.specs.Register.{Cards, answers, sent-back, joined, then, cardsFrom, resultOf}
 use Rattle.register.specs.Laws.{joined-is}
 
@@ -42,12 +44,6 @@ walk-is w (suc n) s at bytes =
         → goOn (stepTo x s) (λ t a. walkFrom w n t (at + length (textOf w a)) (drop 24 bytes)) ≡ walkedAs w s at (then x (s .place) (λ k. cardsFrom n (suc (s .place)) k (drop 24 bytes)))
     go (answered.Is a) ih = ih a ∙ walked-joined w s at a (cardsFrom n (suc (s .place)) (a .number) (drop 24 bytes))
     go (answered.Refused r) ih = refl
-
--- the leaders are among the running values
-running-leaders : (s : Running) (xs : List Answer) → runningAfter s xs .leaders ≡ leadersFrom (s .leaders) xs
-unfolding runningAfter leadersFrom
-running-leaders s [] = refl
-running-leaders s (a ∷ xs) = running-leaders (afterCard s a) xs
 
 -- of cards that are all answered, the texts are written one after the other
 pub text-is : (w : Writes) (n : ℕ) (s : Running) (bytes : List ℕ) (xs : List Answer) → cardsFrom n (s .place) (s .last) bytes ≡ answers xs → textFrom w n s bytes ≡ textsOf w xs

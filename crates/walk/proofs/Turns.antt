@@ -1,67 +1,31 @@
--- One step, what is written of a card, and the walk: its start, one turn and its ends. At every place what is left of the walk, from
+-- What is written of a card, and the walk: its start, one turn and its ends. At every place what is left of the walk, from
 -- the running values, comes to the whole walk, and so does what is left to write; each law carries that on.
 -- Assumes nothing.
 use Prim.Native.Nat.{ℕ, suc, _+_, _-_, _*_, _≤_, _<_, zero-le}
 use native.Mathlib.Omega.{arith}
-use native.Mathlib.Nat.{add-sub-cancel-left, sub-zero, mul-suc, mul-le-mul-left}
-use native.Mathlib.Numerals.{add-one}
+use native.Mathlib.Nat.{sub-zero, mul-suc, mul-le-mul-left}
 use mathlib.Core.Path.{_≡_, _∙_, refl, ap, ap₂, sym, subst}
 use mathlib.Core.List.{List, [], _++_}
 use lib.ListN.{length, take, drop}
 use lib.Seq.{sets, drop-drop}
-use Rattle.search.specs.Laws.{clash}
 use Rattle.buffer.specs.Wrote.{Wrote}
 use Rattle.buffer.specs.Laws.{sets-append}
 use Rattle.refusals.specs.declared.Refusal.{Refusal}
 use Rattle.card.specs.declared.Answer.{Answer}
-use Rattle.card.specs.declared.Answered.{Answered}
-use Rattle.card.specs.declared.Answered.the-variants as answered
-use Rattle.card.specs.Answers.{answerOf}
-use Rattle.farthest.specs.declared.Leaders.{Leaders}
-use Rattle.farthest.specs.Farthest.{noLeaders, leadersAfter}
 use Rattle.encode.specs.Bytes.{answerBytes}
 use Rattle.encode.specs.Laws.{length-answer}
 use Rattle.lines.specs.Lines.{cardLine}
-use Rattle.walk.specs.declared.Running.{Running}
-use Rattle.walk.specs.declared.Stepped.{Stepped}
-use Rattle.walk.specs.declared.Stepped.the-variants as stepped
+use Rattle.running.specs.declared.Running.{Running}
+use Rattle.running.specs.declared.Stepped.{Stepped}
+use Rattle.running.specs.declared.Stepped.the-variants as stepped
+use Rattle.running.specs.Running.{beforeCards, stepOf}
+use Rattle.running.specs.Laws.{on-place}
 use Rattle.walk.specs.declared.Walked.{Walked}
 use Rattle.walk.specs.declared.Walked.the-variants as walked
 use Rattle.walk.specs.declared.Writes.{Writes}
 use Rattle.walk.specs.declared.Writes.the-variants as writes
 use Rattle.walk.specs.declared.Outcome.the-variants as outcome
-use Rattle.walk.specs.Walk.{beforeCards, afterCard, stepTo, stepOf, textOf, mostOf, goOn, walkFrom, writeOn, textFrom, endOf}
-
--- ---- one step
-
-pub start-is : (l : Leaders) → l ≡ noLeaders → record { leaders = l; last = 0; place = 0 } ≡ beforeCards
-start-is l e = ap (λ (m : Leaders). record { leaders = m; last = 0; place = 0 }) e
-
-module _ (s : Running) (card : List ℕ) (x : Answered) (e : x ≡ answerOf card (s .last)) where
-  pub step-on : (a : Answer) (l : Leaders) → x ≡ answered.Is a → l ≡ leadersAfter (s .leaders) a
-      → stepped.On (record { leaders = l; last = a .number; place = s .place + 1 }) a ≡ stepOf s card
-  unfolding stepOf
-  step-on a l q g =
-      ap₂ (λ (m : Leaders) n. stepped.On (record { leaders = m; last = a .number; place = n }) a) g (add-one (s .place))
-      ∙ ap (λ y. stepTo y s) (sym q ∙ e)
-
-  pub step-refused : (r : Refusal) → x ≡ answered.Refused r → stepped.Refused r (s .place) ≡ stepOf s card
-  unfolding stepOf
-  step-refused r q = ap (λ y. stepTo y s) (sym q ∙ e)
-
--- the card at the running place, as the code takes it: from its start to its end
-pub step-part : (cards : List ℕ) (s : Running) (x : Stepped) → x ≡ stepOf s (take (24 * s .place + 24 - 24 * s .place) (drop (24 * s .place) cards))
-    → x ≡ stepOf s (take 24 (drop (24 * s .place) cards))
-step-part cards s x e = e ∙ ap (λ n. stepOf s (take n (drop (24 * s .place) cards))) (add-sub-cancel-left (24 * s .place) 24)
-
--- a step goes to the next place
-on-place : (s t : Running) (a : Answer) (card : List ℕ) → stepOf s card ≡ stepped.On t a → t .place ≡ suc (s .place)
-unfolding stepOf
-on-place s t a card = go (answerOf card (s .last))
-  where
-    go : (y : Answered) → stepTo y s ≡ stepped.On t a → t .place ≡ suc (s .place)
-    go (answered.Is b) q = let z : t ≡ afterCard s b = cc in ap (λ (u : Running). u .place) z
-    go (answered.Refused r) q = clash (cc)
+use Rattle.walk.specs.Walk.{textOf, mostOf, goOn, walkFrom, writeOn, textFrom, endOf}
 
 -- ---- what is written of a card
 

@@ -5,40 +5,20 @@
 use Prim.Native.Nat.{ℕ, zero, suc, _+_, _*_, _≤_}
 use mathlib.Core.List.{List, [], _∷_, _++_}
 use lib.ListN.{length, take, drop}
-use Rattle.refusals.specs.declared.Refusal.{Refusal}
 use Rattle.card.specs.declared.Answer.{Answer}
-use Rattle.card.specs.declared.Answered.{Answered}
-use Rattle.card.specs.declared.Answered.the-variants as answered
-use Rattle.card.specs.Answers.{answerOf}
-use Rattle.farthest.specs.Farthest.{noLeaders, leadersAfter}
 use Rattle.encode.specs.Bytes.{answerBytes}
 use Rattle.lines.specs.Lines.{cardLine}
 use Rattle.header.specs.Header.{cardSize, answerSize}
-use Rattle.walk.specs.declared.Running.{Running}
-use Rattle.walk.specs.declared.Stepped.{Stepped}
-use Rattle.walk.specs.declared.Stepped.the-variants as stepped
+use Rattle.running.specs.declared.Running.{Running}
+use Rattle.running.specs.declared.Stepped.{Stepped}
+use Rattle.running.specs.declared.Stepped.the-variants as stepped
+use Rattle.running.specs.Running.{stepOf}
 use Rattle.walk.specs.declared.Walked.{Walked}
 use Rattle.walk.specs.declared.Walked.the-variants as walked
 use Rattle.walk.specs.declared.Writes.{Writes}
 use Rattle.walk.specs.declared.Writes.the-variants as writes
 use Rattle.walk.specs.declared.Outcome.{Outcome}
 use Rattle.walk.specs.declared.Outcome.the-variants as outcome
-
--- the running values before the first card
-abbrev pub beforeCards : Running
-beforeCards = record { leaders = noLeaders; last = 0; place = 0 }
-
--- and after a card with this answer
-abbrev pub afterCard : Running → Answer → Running
-afterCard s a = record { leaders = leadersAfter (s .leaders) a; last = a .number; place = suc (s .place) }
-
-abbrev pub stepTo : Answered → Running → Stepped
-stepTo (answered.Is a) s = stepped.On (afterCard s a) a
-stepTo (answered.Refused r) s = stepped.Refused r (s .place)
-
--- one step: the card is answered after the last number
-unfoldable pub stepOf : Running → List ℕ → Stepped
-stepOf s card = stepTo (answerOf card (s .last)) s
 
 -- what is written of a card
 abbrev pub textOf : Writes → Answer → List ℕ
@@ -52,11 +32,7 @@ mostOf writes.Nothing = 0
 mostOf writes.Answers = answerSize
 mostOf writes.Lines = 128
 
--- the same of several cards, one after the other
-unfoldable pub runningAfter : Running → List Answer → Running
-runningAfter s [] = s
-runningAfter s (a ∷ rest) = runningAfter (afterCard s a) rest
-
+-- and of several cards, one after the other
 unfoldable pub textsOf : Writes → List Answer → List ℕ
 textsOf w [] = []
 textsOf w (a ∷ rest) = textOf w a ++ textsOf w rest

@@ -1,33 +1,21 @@
-// The one walk over a register's cards. A step takes the running values and a card, and answers the next ones or the refusal; the
-// walk takes a step for each card and writes what it is asked to write of it. Who answers a register, who only asks about it, who
-// lists it and who wants the leaders after some of its cards all go by it.
+// The one walk over a register's cards: it takes a step for each card and writes what it is asked to write of it. Who answers a
+// register, who only asks about it, who lists it and who wants the leaders after some of its cards all go by it.
 use card::Answer;
-use card::Answered;
 use farthest::Leaders;
 use refusals::Refusal;
+use running::Running;
+use running::Stepped;
 ghost use mathlib.Core.Path.{_≡_};
 ghost use Prim.Native.Nat.{_+_, _-_, _*_, _≤_, _<_};
-ghost use lib.ListN.{length, take, drop};
+ghost use lib.ListN.{length, drop};
 ghost use lib.Seq.{sets};
 ghost use Rattle.buffer.specs.Wrote.{Wrote};
-ghost use Rattle.walk.specs.Walk.{beforeCards, stepOf, textOf, mostOf, walkFrom, textFrom, endOf, Within};
+ghost use Rattle.running.specs.Running.{beforeCards};
+ghost use Rattle.walk.specs.Walk.{textOf, mostOf, walkFrom, textFrom, endOf, Within};
 
 // What a call answers: both classes' farthest, or a refusal and the place of its card.
 pub enum Outcome {
     Accepted(Leaders),
-    Refused(Refusal, u32),
-}
-
-// The running values: the farthest card of each class so far, the last card's number, and the place of the next card.
-pub struct Running {
-    pub leaders: Leaders,
-    pub last: u32,
-    pub place: usize,
-}
-
-// A step: the running values after a card, and what the card answers; or why it is sent back, and its place.
-pub enum Stepped {
-    On(Running, Answer),
     Refused(Refusal, u32),
 }
 
@@ -42,48 +30,6 @@ pub enum Writes {
 pub enum Walked {
     On(Running, usize),
     Refused(Refusal, u32),
-}
-
-// The running values before the first card.
-pub fn start() -> Running
-    ensures { λ r. ⌜ r ≡ beforeCards ⌝ }
-{
-    Running {
-        leaders: farthest::no_leaders(),
-        last: 0,
-        place: 0,
-    }
-}
-
-// One card more.
-pub fn step(running: Running, card: &[u8]) -> Stepped
-    requires { ⌜ running .place < 2000 ⌝ }
-    ensures { λ r. ⌜ r ≡ stepOf running (now (card .entry)) ⌝ }
-{
-    let answered = card::answer_of(card, running.last);
-    match answered {
-        Answered::Is(answer) => {
-            let before = running.leaders;
-            let leaders = farthest::lead(before, answer);
-            let next = Running {
-                leaders,
-                last: answer.number,
-                place: running.place + 1,
-            };
-            Stepped::On(next, answer)
-        }
-        Answered::Refused(refusal) => Stepped::Refused(refusal, running.place as u32),
-    }
-}
-
-// The step to the card at the running place.
-fn step_at(cards: &[u8], running: Running) -> Stepped
-    requires { ⌜ (running .place < 2000) × (24 * running .place + 24 ≤ length (now cards)) ⌝ }
-    ensures { λ r. ⌜ r ≡ stepOf running (take 24 (drop (24 * running .place) (now (cards .entry)))) ⌝ }
-{
-    let at = 24 * running.place;
-    let end = at + 24;
-    step(running, &cards[at..end])
 }
 
 // What is to be written of a card, and the place behind it.
@@ -112,7 +58,7 @@ pub fn along(cards: &[u8], from: Running, to: usize, writes: Writes, out: &mut [
     let mut running = from;
     let mut at = 0usize;
     while running.place < to {
-        let stepped = step_at(cards, running);
+        let stepped = running::step_at(cards, running);
         match stepped {
             Stepped::On(next, answer) => {
                 at = put(writes, out, at, answer);
@@ -133,7 +79,7 @@ pub fn through(cards: &[u8], count: usize, writes: Writes, out: &mut [u8]) -> Wa
     ensures { λ r. ⌜ now (out .exit) ≡ sets (now (out .entry)) 0 (textFrom writes count beforeCards (now (cards .entry))) ⌝ }
     ensures { λ r. ⌜ Within (mostOf writes * count) r ⌝ }
 {
-    along(cards, start(), count, writes, out)
+    along(cards, running::start(), count, writes, out)
 }
 
 // The end of a walk through all cards as a call's answer.

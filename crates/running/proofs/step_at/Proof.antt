@@ -1,9 +1,9 @@
--- `walk::step_at` meets its contract: from the start of a card to its end there are 24 bytes.
+-- `running::step_at` meets its contract: from the start of a card to its end there are 24 bytes.
 -- Assumes nothing.
-use Rattle.walk.proofs.Turns.{step-part}
+use Rattle.running.proofs.Steps.{step-part}
 use borrow.Author.Needs.{needs}
-use Rattle.walk.proofs.step_at.Statement.{statement}
-use Rattle.walk.proofs.step_at.Tie as tie
+use Rattle.running.proofs.step_at.Statement.{statement}
+use Rattle.running.proofs.step_at.Tie as tie
 
 mul-at : tie.Need-mul-at
 mul-at c = search needs

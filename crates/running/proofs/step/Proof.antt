@@ -1,9 +1,9 @@
--- `walk::step` meets its contract: the answer of the card settles where the running values go.
+-- `running::step` meets its contract: the answer of the card settles where the running values go.
 -- Assumes nothing.
-use Rattle.walk.proofs.Turns.{step-on, step-refused}
+use Rattle.running.proofs.Steps.{step-on, step-refused}
 use borrow.Author.Needs.{needs}
-use Rattle.walk.proofs.step.Statement.{statement}
-use Rattle.walk.proofs.step.Tie as tie
+use Rattle.running.proofs.step.Statement.{statement}
+use Rattle.running.proofs.step.Tie as tie
 
 answer-of-requires : tie.Need-answer-of-requires
 answer-of-requires c κs = search needs

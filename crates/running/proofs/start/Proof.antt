@@ -1,9 +1,9 @@
--- `walk::start` meets its contract: no class has a card, no number and no place is passed.
+-- `running::start` meets its contract: no class has a card, no number and no place is passed.
 -- Assumes nothing.
-use Rattle.walk.proofs.Turns.{start-is}
+use Rattle.running.proofs.Steps.{start-is}
 use borrow.Author.Needs.{needs}
-use Rattle.walk.proofs.start.Statement.{statement}
-use Rattle.walk.proofs.start.Tie as tie
+use Rattle.running.proofs.start.Statement.{statement}
+use Rattle.running.proofs.start.Tie as tie
 
 no-leaders-requires : tie.Need-no-leaders-requires
 no-leaders-requires c κs = search needs
