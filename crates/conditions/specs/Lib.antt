@@ -13,3 +13,4 @@ pub mod Lines
 pub mod LinesClaim
 pub mod LinesExactly
 pub mod LinesPlain
+pub mod Led

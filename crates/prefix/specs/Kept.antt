@@ -142,7 +142,7 @@ behind-good bytes k (header.Good n) f p e =
     ap (λ m. resultAfter k (cardsFrom m 0 0 (drop 7 bytes))) (sym (header-count bytes enough n p)) ∙ ap (resultAfter k) (f .cards)
 behind-good bytes k (header.Refused r) f p e = clash (cc)
 
-accepted-first : (bytes : List ℕ) (k : ℕ) {l : Leaders} (e : outcomeOf bytes enough ≡ outcome.Accepted l) → prefixOf bytes k ≡ outcome.Accepted (leadersOf (take k (found bytes enough e .list)))
+pub accepted-first : (bytes : List ℕ) (k : ℕ) {l : Leaders} (e : outcomeOf bytes enough ≡ outcome.Accepted l) → prefixOf bytes k ≡ outcome.Accepted (leadersOf (take k (found bytes enough e .list)))
 unfolding prefixOf outcomeOf
 accepted-first bytes k e = behind-good bytes k (headerOf bytes enough) (found bytes enough e) refl e
 
@@ -151,7 +151,7 @@ cards-refused : (k : ℕ) (c : Cards) (r : Refusal) (place : ℕ) → resultOf c
 cards-refused k (answers xs) r place e = clash (cc)
 cards-refused k (sent-back s p) r place e = e
 
-refused-first : (bytes : List ℕ) (k : ℕ) (r : Refusal) (place : ℕ) → outcomeOf bytes enough ≡ outcome.Refused r place → prefixOf bytes k ≡ outcome.Refused r place
+pub refused-first : (bytes : List ℕ) (k : ℕ) (r : Refusal) (place : ℕ) → outcomeOf bytes enough ≡ outcome.Refused r place → prefixOf bytes k ≡ outcome.Refused r place
 unfolding prefixOf outcomeOf
 refused-first bytes k r place = go (headerOf bytes enough)
   where
