@@ -35,10 +35,11 @@ use Rattle.form.specs.declared.Held.the-variants as held
 use Rattle.form.specs.declared.Standing.{Standing}
 use Rattle.form.specs.declared.Shape.{Shape}
 use Rattle.form.specs.declared.Shape.the-variants as shape
-use Rattle.meaning.specs.declared.Bounds.{Bounds}
+use Rattle.ranges.specs.declared.Bounds.{Bounds}
+use Rattle.ranges.specs.Ranges.{badPounds, badArea, badWall, badHeat, signed, tenthsOf, badTenths, isOutOfRange, boundsIf, boundsOf}
 use Rattle.meaning.specs.declared.Meaning.{Meaning}
 use Rattle.form.specs.Form.{stateOf, groundOf, heldOf, heatFits, shapedHeat, shapedHeld, shapedState, shapedBlank, shapeOf, blank}
-use Rattle.meaning.specs.Reading.{badNumber, badPounds, badArea, badWall, badHeat, signed, tenthsOf, badTenths, substanceOf, isOutOfRange, boundsIf, boundsOf, toxicBounded, isListed, meaningIf, toxicMeaning, flammableOf, shaped, meaningOf}
+use Rattle.meaning.specs.Reading.{badNumber, substanceOf, toxicBounded, isListed, meaningIf, toxicMeaning, flammableOf, shaped, meaningOf}
 use Rattle.meaning.specs.States.{by-state}
 use Rattle.form.specs.Inverse.{Stands, toxic-shape, flammable-shape}
 use Rattle.form.specs.Same.{Blank, flammable-blank}

@@ -36,7 +36,8 @@ use Rattle.buffer.specs.Numbers.{byteAt}
 use Rattle.fields.specs.Layout.{fieldsOf}
 use Rattle.refusals.specs.declared.Refusal.{Refusal}
 use Rattle.refusals.specs.declared.Refusal.the-variants as refusal
-use Rattle.meaning.specs.Reading.{badNumber, badPounds, badArea, badWall, badHeat, signed, tenthsOf, substanceOf}
+use Rattle.ranges.specs.Ranges.{badPounds, badArea, badWall, badHeat, signed, tenthsOf}
+use Rattle.meaning.specs.Reading.{badNumber, substanceOf}
 use Rattle.header.specs.Header.{badLength, badVersion, badCount, badBuffer, countOf}
 use Rattle.ordering.specs.Claim.{cardAt}
 

@@ -50,7 +50,8 @@ use Rattle.form.specs.declared.StateByte.the-variants as stateByte
 use Rattle.form.specs.declared.Held.the-variants as held
 use Rattle.form.specs.declared.Standing.{Standing}
 use Rattle.form.specs.Form.{stateOf, heldOf}
-use Rattle.meaning.specs.Reading.{isListed, signed, substanceOf, isOutOfRange}
+use Rattle.ranges.specs.Ranges.{signed, isOutOfRange}
+use Rattle.meaning.specs.Reading.{isListed, substanceOf}
 use Rattle.meaning.specs.States.{by-state}
 use Rattle.form.specs.Inverse.{Stands}
 use Rattle.conditions.specs.Conditions.{anyOf, ofGas, ofLiquid, columnRead, cellRead, withoutData, aboveFifty, heldIn, mismatched}

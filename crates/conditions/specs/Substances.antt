@@ -18,7 +18,8 @@ use Rattle.exhibits.specs.Exhibits.{gasCas, liquidCas, gasIn, liquidIn, factors
 use Rattle.exhibits.specs.Solutions.{badPercent, solutionOf}
 use Rattle.exhibits.specs.SolutionLaws.{Says, a-line, out-of-range, not-listed, says}
 use Rattle.fields.specs.Layout.{fieldsOf}
-use Rattle.meaning.specs.Reading.{isListed, isOutOfRange}
+use Rattle.ranges.specs.Ranges.{isOutOfRange}
+use Rattle.meaning.specs.Reading.{isListed}
 use Rattle.conditions.specs.Conditions.{ofGas, ofLiquid, ofSolution}
 
 -- what the exhibits say of a CAS number, and in which of them it stands

@@ -27,7 +27,8 @@ use Rattle.form.specs.declared.Held.the-variants as held
 use Rattle.form.specs.declared.Standing.{Standing}
 use Rattle.form.specs.Form.{stateOf, groundOf, openOf, heldOf}
 use Rattle.form.specs.Inverse.{Stands}
-use Rattle.meaning.specs.Reading.{tenthsOf, substanceOf}
+use Rattle.ranges.specs.Ranges.{tenthsOf}
+use Rattle.meaning.specs.Reading.{substanceOf}
 use Rattle.conditions.specs.Conditions.{stateIn, groundIn, heldIn, toxicCard}
 use Rattle.conditions.specs.Form.{state-is}
 

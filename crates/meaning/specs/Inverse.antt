@@ -19,12 +19,13 @@ use Rattle.form.specs.declared.Shape.{Shape}
 use Rattle.form.specs.declared.Shape.the-variants as shape
 use Rattle.form.specs.Form.{stateOf, groundOf, heldOf, shapeOf}
 use Rattle.form.specs.Inverse.{toxic-shape, flammable-shape}
-use Rattle.meaning.specs.declared.Bounds.{Bounds}
-use Rattle.meaning.specs.declared.Bounds.the-variants as bounds
+use Rattle.ranges.specs.declared.Bounds.{Bounds}
+use Rattle.ranges.specs.declared.Bounds.the-variants as bounds
+use Rattle.ranges.specs.Ranges.{badPounds, badArea, badWall, tenthsOf, badTenths, isOutOfRange, boundsIf, boundsOf}
 use Rattle.meaning.specs.declared.FlammableCard.{FlammableCard}
 use Rattle.meaning.specs.declared.Meaning.{Meaning}
 use Rattle.meaning.specs.declared.Meaning.the-variants as meaning
-use Rattle.meaning.specs.Reading.{badNumber, badPounds, badArea, badWall, tenthsOf, badTenths, substanceOf, isOutOfRange, boundsIf, boundsOf, toxicBounded, isListed, meaningIf, toxicMeaning, flammableOf, shaped, meaningOf}
+use Rattle.meaning.specs.Reading.{badNumber, substanceOf, toxicBounded, isListed, meaningIf, toxicMeaning, flammableOf, shaped, meaningOf}
 
 -- what a toxic card tells of its fields
 pub record ToxicFrom (f : Fields) (card : ToxicCard) : Type 0 where

@@ -1,16 +1,12 @@
 -- The ranges of a card's numbers where its meaning is no refusal.
 -- Assumes nothing.
-use Prim.Native.Nat.{ℕ, _-_, _≤_, _<_}
+use Prim.Native.Nat.{ℕ, _≤_, _<_}
 use native.Mathlib.Omega.{arith}
 use mathlib.Core.Path.{_≡_, refl}
 use mathlib.Core.Bool.{Bool, true, false, not}
 use mathlib.Core.Logic.{_⊎_, inl, inr}
-use lib.Dec.{ltb, eqb}
-use lib.IntN.{ℤ, pos, negsuc}
-use borrow.Author.Tests.{ltb-false, not-false}
+use borrow.Author.Tests.{not-false}
 use Rattle.search.specs.Laws.{clash}
-use Rattle.search.specs.Places.{either}
-use Rattle.search.specs.PlaceLaws.{neither}
 use Rattle.exhibits.specs.declared.Toxic.{Toxic}
 use Rattle.exhibits.specs.declared.Toxic.the-variants.{NotListed}
 use Rattle.exhibits.specs.Exhibits.{toxicOf}
@@ -36,11 +32,13 @@ use Rattle.form.specs.declared.Shape.the-variants as shape
 use Rattle.form.specs.Form.{heldOf, shapeOf}
 use Rattle.form.specs.Inverse.{toxic-shape, flammable-shape}
 use Rattle.form.specs.Same.{stateIn, state-byte, groundIn, ground-byte, held-bytes, flammable-blank}
-use Rattle.meaning.specs.declared.Bounds.{Bounds}
+use Rattle.ranges.specs.declared.Bounds.{Bounds}
+use Rattle.ranges.specs.Ranges.{badPounds, badArea, badWall, tenthsOf, badTenths, isOutOfRange, boundsIf, boundsOf}
+use Rattle.ranges.specs.Laws.{pounds-within, wall-within, heat-within, area-within}
 use Rattle.meaning.specs.declared.Meaning.{Meaning}
 use Rattle.meaning.specs.declared.Meaning.the-variants as meaning
 use Rattle.meaning.specs.States.{by-state}
-use Rattle.meaning.specs.Reading.{badNumber, badPounds, badArea, badWall, badHeat, signed, tenthsOf, badTenths, substanceOf, isOutOfRange, boundsIf, boundsOf, toxicBounded, isListed, meaningIf, toxicMeaning, flammableOf, shaped, meaningOf}
+use Rattle.meaning.specs.Reading.{badNumber, substanceOf, toxicBounded, isListed, meaningIf, toxicMeaning, flammableOf, shaped, meaningOf}
 
 -- a temperature or a concentration in range, as the two bytes hold it: from 0 up, or a temperature below 0
 abbrev pub TenthsRanged : Fields → Type 0
@@ -59,23 +57,6 @@ pub record Ranged (f : Fields) : Type 0 where
 
 -- ---- what the tests of 8, 9, 14, 15 and 16 say of a number that they let pass
 
-pub pounds-within : (n : ℕ) → badPounds n ≡ false → n ≤ 10_000_000
-unfolding badPounds
-pounds-within n e = ltb-false 10_000_000 n (neither (eqb n 0) (ltb 10_000_000 n) e .1)
-
-wall-within : (n : ℕ) → badWall n ≡ false → n ≤ 10_000
-unfolding badWall
-wall-within n e = ltb-false 10_000 n e
-
--- "-500 to 3,000"
-heat-within : (n : ℕ) → badHeat (signed n) ≡ false → (n ≤ 3_000) ⊎ (65_036 ≤ n)
-unfolding badHeat signed
-heat-within n e = go (ltb n 32_768) e
-  where
-    go : (t : Bool) → badHeat (elim t as (λ _. ℤ) [ true ↦ pos n | false ↦ negsuc (65_535 - n) ]) ≡ false → (n ≤ 3_000) ⊎ (65_036 ≤ n)
-    go true q = inl (ltb-false 3_000 n q)
-    go false q = inr (omega (arith, ltb-false 499 (65_535 - n) (neither (ltb 499 (65_535 - n)) false q .0)))
-
 -- what is listed is not missing
 listed : (t : Toxic) → isListed t ≡ true → t ≡ NotListed → ⊥
 listed t e n = let z : _≡_ {A = ℕ} 0 1 = cc in clash z
@@ -90,9 +71,6 @@ tenths-within f =
     either-end : (f .state ≡ 5 → ⊥) → (f .heat ≤ 3_000) ⊎ (65_036 ≤ f .heat) → TenthsRanged f
     either-end n (inl h) = inl h
     either-end n (inr h) = inr (h, n)
-
-area-within : (n : ℕ) → either (eqb n 0) (ltb 1_000_000 n) ≡ false → n ≤ 1_000_000
-area-within n e = ltb-false 1_000_000 n (neither (eqb n 0) (ltb 1_000_000 n) e .1)
 
 -- "zero if open"; else the area is in range
 held-within : (c : Containment) (b area wall : ℕ) → heldOf b area wall ≡ held.Is c → badArea b area ≡ false → (b ≤ 2) × (area ≤ 1_000_000)

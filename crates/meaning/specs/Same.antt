@@ -22,10 +22,11 @@ use Rattle.form.specs.declared.Shape.the-variants as shape
 use Rattle.form.specs.Form.{shapeOf}
 use Rattle.form.specs.Inverse.{toxic-shape}
 use Rattle.form.specs.Same.{stateIn, state-byte, groundIn, ground-byte, heldIn, held-bytes, flammable-blank}
+use Rattle.ranges.specs.Ranges.{signed, tenthsOf}
 use Rattle.meaning.specs.declared.FlammableCard.{FlammableCard}
 use Rattle.meaning.specs.declared.Meaning.{Meaning}
 use Rattle.meaning.specs.declared.Meaning.the-variants as meaning
-use Rattle.meaning.specs.Reading.{badNumber, signed, tenthsOf, meaningIf, shaped, meaningOf}
+use Rattle.meaning.specs.Reading.{badNumber, meaningIf, shaped, meaningOf}
 use Rattle.meaning.specs.States.{by-state}
 use Rattle.meaning.specs.Inverse.{toxic-from, flammable-from}
 

@@ -11,7 +11,8 @@ use Rattle.exhibits.specs.Solutions.{solutionOf}
 use Rattle.scenario.specs.declared.Tenths.{Tenths}
 use Rattle.scenario.specs.declared.Tenths.the-variants.{Temperature, Concentration}
 use Rattle.fields.specs.declared.Fields.{Fields}
-use Rattle.meaning.specs.Reading.{signed, tenthsOf, substanceOf}
+use Rattle.ranges.specs.Ranges.{signed, tenthsOf}
+use Rattle.meaning.specs.Reading.{substanceOf}
 
 -- what holds of a solution of Exhibit B-3 with its concentration, and of a substance of B-1 or B-2 with its temperature, holds in
 -- every state

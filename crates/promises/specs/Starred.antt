@@ -24,9 +24,10 @@ use Rattle.release.specs.Pool.{atMostTenMinutes, dikedArea, poolArea, poolRate}
 use Rattle.factors.specs.Factors.{columnOf}
 use Rattle.scenario.specs.Plan.{planOf, poolOf, tableOf, vaporOf}
 use Rattle.fields.specs.Layout.{fieldsOf}
+use Rattle.ranges.specs.Ranges.{badArea, badHeat, badPounds, badWall, boundsOf, signed, tenthsOf}
 use Rattle.meaning.specs.declared.Meaning.{Meaning}
 use Rattle.meaning.specs.declared.Meaning.the-variants as meaning
-use Rattle.meaning.specs.Reading.{badArea, badHeat, badNumber, badPounds, badWall, boundsOf, flammableOf, meaningOf, signed, substanceOf, tenthsOf, toxicMeaning}
+use Rattle.meaning.specs.Reading.{badNumber, flammableOf, meaningOf, substanceOf, toxicMeaning}
 use Rattle.form.specs.Form.{groundOf, heldOf, openOf, shapeOf, stateOf, blank}
 use Rattle.card.specs.declared.Class.{Class}
 use Rattle.card.specs.declared.Class.the-variants as class

@@ -25,7 +25,8 @@ use Rattle.pieces.specs.Pieces.{closed}
 use Rattle.fields.specs.declared.Fields.{Fields}
 use Rattle.fields.specs.Layout.{fieldsOf}
 use Rattle.form.specs.Form.{stateOf, groundOf, heldOf, shapeOf}
-use Rattle.meaning.specs.Reading.{badNumber, badPounds, badArea, badWall, signed, badHeat, boundsOf, substanceOf, tenthsOf, toxicMeaning, meaningOf}
+use Rattle.ranges.specs.Ranges.{badPounds, badArea, badWall, signed, badHeat, boundsOf, tenthsOf}
+use Rattle.meaning.specs.Reading.{badNumber, substanceOf, toxicMeaning, meaningOf}
 use Rattle.meaning.specs.Ranges.{Ranged, ranged}
 use Rattle.card.specs.Answers.{answerOf}
 use Rattle.farthest.specs.declared.Farthest.the-variants as farthest

@@ -1,7 +1,7 @@
 use borrow.Author.Needs.{needs}
-use Rattle.meaning.proofs.Ends.{area-none, area-zero, area-large}
-use Rattle.meaning.proofs.bad_area.Statement.{statement}
-use Rattle.meaning.proofs.bad_area.Tie as tie
+use Rattle.ranges.proofs.Ends.{area-none, area-zero, area-large}
+use Rattle.ranges.proofs.bad_area.Statement.{statement}
+use Rattle.ranges.proofs.bad_area.Tie as tie
 
 returns : tie.Need-returns
 returns c = search (area-none, needs)

@@ -1,7 +1,7 @@
-use Rattle.meaning.proofs.Ends.{degrees-bad}
+use Rattle.ranges.proofs.Ends.{degrees-bad}
 use borrow.Author.Needs.{needs}
-use Rattle.meaning.proofs.bad_tenths.Statement.{statement}
-use Rattle.meaning.proofs.bad_tenths.Tie as tie
+use Rattle.ranges.proofs.bad_tenths.Statement.{statement}
+use Rattle.ranges.proofs.bad_tenths.Tie as tie
 
 enum-known-tenths : tie.Need-enum-known-tenths
 enum-known-tenths c = search needs

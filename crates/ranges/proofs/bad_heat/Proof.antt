@@ -2,10 +2,10 @@ use mathlib.Core.Path.{refl}
 use lib.IntN.{pos, negsuc}
 use lib.Signed.{ltZ}
 use Rattle.factors.proofs.Ends.{turn}
-use Rattle.meaning.proofs.Ends.{heat-low, heat-high}
+use Rattle.ranges.proofs.Ends.{heat-low, heat-high}
 use borrow.Author.Needs.{needs}
-use Rattle.meaning.proofs.bad_heat.Statement.{statement}
-use Rattle.meaning.proofs.bad_heat.Tie as tie
+use Rattle.ranges.proofs.bad_heat.Statement.{statement}
+use Rattle.ranges.proofs.bad_heat.Tie as tie
 
 below-requires : tie.Need-below-requires
 below-requires c κs = search needs

@@ -1,7 +1,7 @@
 use borrow.Author.Needs.{needs}
-use Rattle.meaning.proofs.Ends.{pounds-zero, pounds-many}
-use Rattle.meaning.proofs.bad_pounds.Statement.{statement}
-use Rattle.meaning.proofs.bad_pounds.Tie as tie
+use Rattle.ranges.proofs.Ends.{pounds-zero, pounds-many}
+use Rattle.ranges.proofs.bad_pounds.Statement.{statement}
+use Rattle.ranges.proofs.bad_pounds.Tie as tie
 
 returns : tie.Need-returns
 returns c = search (pounds-zero, needs)

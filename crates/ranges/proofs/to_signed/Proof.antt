@@ -1,9 +1,9 @@
-use Rattle.meaning.proofs.Ends.{signed-below, signed-fits}
+use Rattle.ranges.proofs.Ends.{signed-below, signed-fits}
 use native.Mathlib.Omega.{arith}
-use Rattle.meaning.proofs.Ends.{signed-above}
+use Rattle.ranges.proofs.Ends.{signed-above}
 use borrow.Author.Needs.{needs}
-use Rattle.meaning.proofs.to_signed.Statement.{statement}
-use Rattle.meaning.proofs.to_signed.Tie as tie
+use Rattle.ranges.proofs.to_signed.Statement.{statement}
+use Rattle.ranges.proofs.to_signed.Tie as tie
 
 cast-result : tie.Need-cast-result
 cast-result c = search needs

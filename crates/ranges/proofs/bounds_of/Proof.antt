@@ -1,9 +1,9 @@
--- `meaning::bounds_of` meets its contract: a law for each range that is left, and one for numbers that are all within theirs.
+-- `ranges::bounds_of` meets its contract: a law for each range that is left, and one for numbers that are all within theirs.
 -- Assumes nothing.
-use Rattle.meaning.proofs.Ends.{bounds-pounds, bounds-area, bounds-wall, bounds-heat, bounds-concentration, bounds-within, pounds-fit}
+use Rattle.ranges.proofs.Ends.{bounds-pounds, bounds-area, bounds-wall, bounds-heat, bounds-concentration, bounds-within, pounds-fit}
 use borrow.Author.Needs.{needs}
-use Rattle.meaning.proofs.bounds_of.Statement.{statement}
-use Rattle.meaning.proofs.bounds_of.Tie as tie
+use Rattle.ranges.proofs.bounds_of.Statement.{statement}
+use Rattle.ranges.proofs.bounds_of.Tie as tie
 
 bad-pounds-requires : tie.Need-bad-pounds-requires
 bad-pounds-requires c κs = search needs

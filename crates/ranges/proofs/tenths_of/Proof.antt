@@ -1,7 +1,7 @@
-use Rattle.meaning.proofs.Ends.{concentration, temperature}
+use Rattle.ranges.proofs.Ends.{concentration, temperature}
 use borrow.Author.Needs.{needs}
-use Rattle.meaning.proofs.tenths_of.Statement.{statement}
-use Rattle.meaning.proofs.tenths_of.Tie as tie
+use Rattle.ranges.proofs.tenths_of.Statement.{statement}
+use Rattle.ranges.proofs.tenths_of.Tie as tie
 
 to-signed-requires : tie.Need-to-signed-requires
 to-signed-requires c κs = search needs
