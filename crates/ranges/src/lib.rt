@@ -12,6 +12,7 @@ pub enum Bounds {
     Refused(Refusal),
 }
 
+// Of a flammable card the pounds are the one number that has a range.
 pub fn bad_pounds(pounds: u32) -> bool
     ensures { λ r. ⌜ r ≡ badPounds pounds ⌝ }
 {
