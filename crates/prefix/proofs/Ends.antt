@@ -1,11 +1,11 @@
 -- One law for each return: what the two parts of the walk end with is what the definition says of all cards.
 -- Assumes nothing.
-use Prim.Native.Nat.{ℕ, _+_, _-_, _*_, _≤_, _<_}
+use Prim.Native.Nat.{ℕ, _+_, _-_, _*_, _≤_}
 use native.Mathlib.Omega.{arith}
 use mathlib.Core.Path.{_≡_, _∙_, refl, ap, sym, subst}
-use mathlib.Core.List.{List, [], _∷_, _++_}
+use mathlib.Core.List.{List}
 use lib.ListN.{length, take, drop}
-use lib.Seq.{take-at, take-all}
+use lib.Seq.{take-at}
 use Rattle.refusals.specs.declared.Refusal.{Refusal}
 use Rattle.card.specs.declared.Answer.{Answer}
 use Rattle.farthest.specs.Farthest.{leadersOf}
@@ -15,13 +15,13 @@ use Rattle.header.specs.Header.{enough, headerOf, headerRefusal}
 use Rattle.walk.specs.declared.Outcome.{Outcome}
 use Rattle.walk.specs.declared.Outcome.the-variants as outcome
 use Rattle.running.specs.declared.Running.{Running}
-use Rattle.running.specs.Running.{beforeCards, runningAfter}
+use Rattle.running.specs.Running.{beforeCards}
 use Rattle.running.specs.Laws.{running-place}
 use Rattle.walk.specs.declared.Walked.{Walked}
 use Rattle.walk.specs.declared.Walked.the-variants as walked
 use Rattle.walk.specs.declared.Writes.the-variants as writes
 use Rattle.walk.specs.Walk.{walkFrom, endOf}
-use Rattle.register.specs.Register.{Cards, answers, sent-back, cardsFrom, cardsOf}
+use Rattle.register.specs.Register.{cardsFrom, cardsOf}
 use Rattle.register.specs.Laws.{cards-count, behind-header}
 use Rattle.register.specs.Walked.{Passed, passed, passed-leaders, stopped}
 use Rattle.prefix.specs.Prefix.{resultAfter, resultBehind, prefixOf}

@@ -5,12 +5,11 @@ use native.Mathlib.Nat.{le-of-suc-le-suc, not-suc-le-zero}
 use native.Mathlib.Omega.{arith}
 use mathlib.Core.Path.{_≡_, _∙_, refl, sym, ap, subst}
 use mathlib.Core.List.{List, [], _∷_}
-use mathlib.Core.Logic.{_↔_}
-use lib.ListN.{length, take, drop}
+use lib.ListN.{take, drop}
 use lib.Seq.{take-all}
 use Rattle.search.specs.Laws.{clash}
 use Rattle.units.specs.declared.Miles.{Miles}
-use Rattle.buffer.specs.Numbers.{byteAt, fourAt}
+use Rattle.buffer.specs.Numbers.{fourAt}
 use Rattle.fields.specs.Layout.{fieldsOf}
 use Rattle.refusals.specs.declared.Refusal.{Refusal}
 use Rattle.card.specs.declared.Class.{Class}
@@ -20,10 +19,9 @@ use Rattle.card.specs.declared.Answered.the-variants as answered
 use Rattle.card.specs.Answers.{answerOf}
 use Rattle.card.specs.Order.{kindOf, answer-first, class-is}
 use Rattle.card.specs.Number.{answer-number}
-use Rattle.farthest.specs.declared.Farthest.{Farthest}
 use Rattle.farthest.specs.declared.Farthest.the-variants as farthest
 use Rattle.farthest.specs.declared.Leaders.{Leaders}
-use Rattle.farthest.specs.Farthest.{At, Reaches, NoCard, farthestOf, leadersOf}
+use Rattle.farthest.specs.Farthest.{At, Reaches, farthestOf, leadersOf}
 use Rattle.farthest.specs.Laws.{reaches, leads, none-only, none-if}
 use Rattle.header.specs.declared.Header.{Header}
 use Rattle.header.specs.declared.Header.the-variants as header
@@ -32,7 +30,7 @@ use Rattle.walk.specs.declared.Outcome.{Outcome}
 use Rattle.walk.specs.declared.Outcome.the-variants as outcome
 use Rattle.register.specs.Register.{Cards, answers, sent-back, cardsFrom, cardsOf, resultOf, afterHeader, outcomeOf}
 use Rattle.register.specs.Laws.{cards-count}
-use Rattle.ordering.specs.Claim.{cardAt, farthestIn}
+use Rattle.ordering.specs.Claim.{cardAt}
 use Rattle.ordering.specs.Ordering.{in-result}
 use Rattle.ordering.specs.Found.{Found, found, header-count, from-card, to-card}
 use Rattle.prefix.specs.Prefix.{resultAfter, resultBehind, prefixOf}

@@ -1,6 +1,6 @@
 -- The paper's words (`Claim.antt`) leave one answer: two leaders of a class that both keep them are the same.
 -- Assumes nothing.
-use Prim.Native.Nat.{ℕ, _≤_, _<_}
+use Prim.Native.Nat.{ℕ}
 use native.Mathlib.Omega.{arith}
 use mathlib.Core.Path.{_≡_, _∙_, refl, sym, ap, ap₂}
 use mathlib.Core.Bool.{Bool, true, false}
@@ -13,7 +13,7 @@ use Rattle.card.specs.declared.Class.{Class}
 use Rattle.farthest.specs.declared.Farthest.{Farthest}
 use Rattle.farthest.specs.declared.Farthest.the-variants as farthest
 use Rattle.ordering.specs.Claim.{cardAt}
-use Rattle.prefix.specs.Claim.{distanceOf, Leader, FarthestOfFirst}
+use Rattle.prefix.specs.Claim.{Leader, FarthestOfFirst}
 
 module _ (c : Class) (register : List ℕ) (k : ℕ) where
   module _ (n m : ℕ) (d e : Miles) (p : FarthestOfFirst c register k (farthest.Card n d)) (q : FarthestOfFirst c register k (farthest.Card m e)) where

@@ -1,21 +1,17 @@
 -- What callers use of a register's cards and of its header.
 -- Assumes nothing.
-use Prim.Native.Nat.{ℕ, zero, suc, _+_, _-_, _*_, _≤_}
+use Prim.Native.Nat.{ℕ, zero, suc, _-_, _*_, _≤_}
 use native.Mathlib.Omega.{arith}
 use mathlib.Core.Path.{_≡_, _∙_, refl, ap, sym, subst}
-use mathlib.Core.List.{List, [], _∷_, _++_}
+use mathlib.Core.List.{List, [], _∷_}
 use lib.ListN.{length, take, drop, length-append, length-take, length-drop}
-use lib.Seq.{sets, take-all, take-at}
+use lib.Seq.{take-all}
 use Rattle.search.specs.Laws.{clash}
-use Rattle.buffer.specs.Wrote.{Wrote}
-use Rattle.buffer.specs.Laws.{sets-append, written-first}
 use Rattle.refusals.specs.declared.Refusal.{Refusal}
 use Rattle.card.specs.declared.Answer.{Answer}
 use Rattle.card.specs.declared.Answered.{Answered}
 use Rattle.card.specs.declared.Answered.the-variants as answered
 use Rattle.card.specs.Answers.{answerOf}
-use Rattle.farthest.specs.declared.Leaders.{Leaders}
-use Rattle.farthest.specs.Farthest.{leadersAfter, leadersFrom, leadersOf, noLeaders}
 use Rattle.encode.specs.Bytes.{answerBytes}
 use Rattle.encode.specs.Laws.{length-answer}
 use Rattle.header.specs.declared.Header.{Header}

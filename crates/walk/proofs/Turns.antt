@@ -5,7 +5,7 @@ use Prim.Native.Nat.{ℕ, suc, _+_, _-_, _*_, _≤_, _<_, zero-le}
 use native.Mathlib.Omega.{arith}
 use native.Mathlib.Nat.{sub-zero, mul-suc, mul-le-mul-left}
 use mathlib.Core.Path.{_≡_, _∙_, refl, ap, ap₂, sym, subst}
-use mathlib.Core.List.{List, [], _++_}
+use mathlib.Core.List.{List, _++_}
 use lib.ListN.{length, take, drop}
 use lib.Seq.{sets, drop-drop}
 use Rattle.buffer.specs.Wrote.{Wrote}

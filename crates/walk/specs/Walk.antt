@@ -2,7 +2,7 @@
 -- written on the way. It serves the proofs; what a register is stands in `register/specs/Register.antt`, and the laws beside it join
 -- the two.
 -- Assumes nothing.
-use Prim.Native.Nat.{ℕ, zero, suc, _+_, _*_, _≤_}
+use Prim.Native.Nat.{ℕ, zero, suc, _+_, _≤_}
 use mathlib.Core.List.{List, [], _∷_, _++_}
 use lib.ListN.{length, take, drop}
 use Rattle.card.specs.declared.Answer.{Answer}
