@@ -22,12 +22,12 @@ use Rattle.walk.specs.declared.Walked.the-variants as walked
 use Rattle.walk.specs.declared.Writes.the-variants as writes
 use Rattle.walk.specs.Walk.{walkFrom, endOf}
 use Rattle.register.specs.Register.{cardsFrom, cardsOf}
-use Rattle.register.specs.Laws.{cards-count, behind-header}
+use Rattle.register.specs.Laws.{cards-count, behind-header, header-refused}
 use Rattle.register.specs.Walked.{Passed, passed, passed-leaders, stopped}
 use Rattle.prefix.specs.Prefix.{resultAfter, resultBehind, prefixOf}
 use Rattle.prefix.specs.Claim.{Keeps}
 use Rattle.prefix.specs.Cut.{inFront, front-answers, front-sent-back, cut-answered, cut-sent-back}
-use Rattle.prefix.specs.Kept.{keeps, all-cards}
+use Rattle.prefix.specs.Kept.{keeps, all-cards, refused-first}
 
 -- ---- the two parts of the walk
 
@@ -94,10 +94,9 @@ module _ (first count : ℕ) (bytes : List ℕ) (h : first ≤ count) (x : Walke
 -- ---- the whole call, from its header on
 
 module _ (bytes : List ℕ) (k : ℕ) (h : Header) (e : h ≡ headerOf bytes enough) where
-  pub header-refused : (r s : Refusal) → h ≡ header.Refused r → s ≡ headerRefusal h → outcome.Refused s 0 ≡ prefixOf bytes k
-  unfolding prefixOf
-  header-refused r s q g =
-      ap (λ y. outcome.Refused y 0) (g ∙ ap headerRefusal q) ∙ ap (λ y. resultBehind k y bytes) (sym q ∙ e)
+  -- a header that is refused is the register's own refusal
+  pub header-told : (r s : Refusal) → h ≡ header.Refused r → s ≡ headerRefusal h → outcome.Refused s 0 ≡ prefixOf bytes k
+  header-told r s q g = sym (refused-first bytes k s 0 (sym (header-refused bytes enough h e r s q g)))
 
   module _ (n : ℕ) (x : Outcome) (q : h ≡ header.Good n) where
     good-is : resultAfter k (cardsFrom n 0 0 (take (length bytes - 7) (drop 7 bytes))) ≡ prefixOf bytes k

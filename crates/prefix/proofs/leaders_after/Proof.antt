@@ -1,7 +1,7 @@
 -- `prefix::leaders_after` meets its contract: the refusal of the header, or the leaders after as many of the first k cards as there are.
 -- Assumes nothing.
 use Rattle.register.specs.Laws.{good}
-use Rattle.prefix.proofs.Ends.{header-refused, some-cards, every-card, kept}
+use Rattle.prefix.proofs.Ends.{header-told, some-cards, every-card, kept}
 use borrow.Author.Needs.{needs}
 use Rattle.prefix.proofs.leaders_after.Statement.{statement}
 use Rattle.prefix.proofs.leaders_after.Tie as tie
@@ -19,7 +19,7 @@ header-refusal-requires : tie.Need-header-refusal-requires
 header-refusal-requires c κs = search needs
 
 returns : tie.Need-returns
-returns c = (search (header-refused, needs), search (header-refused, kept, needs))
+returns c = (search (header-told, needs), search (header-told, kept, needs))
 
 sub-leaders-at : tie.Need-sub-leaders-at
 sub-leaders-at c = search (good, needs)
