@@ -1,5 +1,5 @@
 -- What a register is: its cards in turn, what the call answers, and what it leaves in the answer buffer. The contracts of the
--- entry points cite this file; how the code walks over the cards stands in `walk/specs/Walks.antt`.
+-- entry points cite this file; how the code walks over the cards stands in `walk/specs/Walk.antt`.
 -- Assumes nothing.
 use Prim.Native.Nat.{ℕ, zero, suc, _+_}
 use mathlib.Core.List.{List, [], _∷_, _++_}
