@@ -12,7 +12,7 @@ use Rattle.search.specs.Laws.{clash}
 use Rattle.search.specs.Rising.{both}
 use Rattle.search.specs.Places.{either, among}
 use Rattle.dispersion.specs.declared.Ground.the-variants.{Rural, Urban}
-use Rattle.release.specs.declared.Containment.the-variants.{Open, Dike, Building}
+use Rattle.release.specs.declared.Containment.the-variants.{Open, Building}
 use Rattle.scenario.specs.declared.State.{State}
 use Rattle.scenario.specs.declared.State.the-variants.{Gas, Pressurized, Refrigerated, Liquid, Solution}
 use Rattle.fields.specs.declared.Fields.{Fields}
@@ -29,6 +29,7 @@ use Rattle.form.specs.declared.Standing.{Standing}
 use Rattle.form.specs.declared.Shape.{Shape}
 use Rattle.form.specs.declared.Shape.the-variants as shape
 use Rattle.form.specs.Form.{stateOf, groundOf, openOf, heldOf, heatFits, shapedHeat, shapedHeld, shapedState, shapedBlank, shapeOf, blank}
+use Rattle.form.specs.Inverse.{no-held}
 use Rattle.conditions.specs.Conditions.{unlisted, filled, badToxic, badFlammable, badForm}
 
 pub state-is : {a b : State} → stateByte.Is a ≡ stateByte.Is b → a ≡ b
@@ -156,26 +157,8 @@ held-form (suc (suc zero)) area wall = go (eqb wall 0)
     go : (q : Bool) → not q ≡ isFilled (elim q as (λ _. Held) [ true ↦ held.Is (Building (record { floor = record { 0 = 100 * area } })) | false ↦ held.Filled ])
     go true = refl
     go false = refl
-held-form (suc (suc (suc n))) area wall = go (eqb wall 0) (eqb (suc (suc (suc n))) 0) (eqb (suc (suc (suc n))) 1) (eqb (suc (suc (suc n))) 2) no0 no1 no2
-  where
-    no0 : eqb (suc (suc (suc n))) 0 ≡ false
-    no0 = ne-eqb (suc (suc (suc n))) 0 (λ e. omega arith)
-
-    no1 : eqb (suc (suc (suc n))) 1 ≡ false
-    no1 = ne-eqb (suc (suc (suc n))) 1 (λ e. omega arith)
-
-    no2 : eqb (suc (suc (suc n))) 2 ≡ false
-    no2 = ne-eqb (suc (suc (suc n))) 2 (λ e. omega arith)
-
-    other : (q : Bool) → true ≡ isFilled (elim q as (λ _. Held) [ true ↦ held.Filled | false ↦ held.Filled ])
-    other true = refl
-    other false = refl
-
-    go : (q k l m : Bool) → k ≡ false → l ≡ false → m ≡ false → either (not (either k (either l (either m false)))) (either (both k (not (eqb area 0))) (both (not l) (not q))) ≡ isFilled (elim l as (λ _. Held) [ true ↦ held.Is (Dike (record { area = record { 0 = 100 * area }; wall = wall })) | false ↦ elim q as (λ _. Held) [ true ↦ elim m as (λ _. Held) [ true ↦ held.Is (Building (record { floor = record { 0 = 100 * area } })) | false ↦ elim k as (λ _. Held) [ true ↦ openOf area | false ↦ held.Filled ] ] | false ↦ held.Filled ] ])
-    go q false false false a b c = other q
-    go q true l m a b c = let z : _≡_ {A = ℕ} 0 1 = cc in clash z
-    go q false true m a b c = let z : _≡_ {A = ℕ} 0 1 = cc in clash z
-    go q false false true a b c = let z : _≡_ {A = ℕ} 0 1 = cc in clash z
+held-form (suc (suc (suc n))) area wall =
+    rw (no-held (suc (suc (suc n))) area wall (omega arith), ne-eqb (suc (suc (suc n))) 0 (λ e. omega arith), ne-eqb (suc (suc (suc n))) 1 (λ e. omega arith), ne-eqb (suc (suc (suc n))) 2 (λ e. omega arith))
 
 -- a byte above 5 is no state
 pub no-state : (b : ℕ) → 5 < b → stateOf b ≡ stateByte.Unlisted

@@ -1,7 +1,8 @@
 -- The card that condition 11 speaks of is the one that the form of its bytes makes.
 -- Assumes nothing.
-use Prim.Native.Nat.{ℕ, _*_}
-use mathlib.Core.Path.{_≡_}
+use Prim.Native.Nat.{ℕ, zero, suc}
+use native.Mathlib.Omega.{arith}
+use mathlib.Core.Path.{_≡_, _∙_, sym}
 use mathlib.Core.Bool.{Bool, true, false}
 use mathlib.Core.List.{List}
 use lib.Dec.{eqb}
@@ -9,7 +10,6 @@ use Rattle.search.specs.Laws.{clash}
 use Rattle.dispersion.specs.declared.Ground.{Ground}
 use Rattle.dispersion.specs.declared.Ground.the-variants.{Rural, Urban}
 use Rattle.release.specs.declared.Containment.{Containment}
-use Rattle.release.specs.declared.Containment.the-variants.{Open, Dike, Building}
 use Rattle.scenario.specs.declared.State.{State}
 use Rattle.scenario.specs.declared.State.the-variants.{Gas, Pressurized, Refrigerated, Liquid, Solution}
 use Rattle.exhibits.specs.declared.Toxic.{Toxic}
@@ -22,11 +22,10 @@ use Rattle.form.specs.declared.StateByte.{StateByte}
 use Rattle.form.specs.declared.StateByte.the-variants as stateByte
 use Rattle.form.specs.declared.GroundByte.{GroundByte}
 use Rattle.form.specs.declared.GroundByte.the-variants as groundByte
-use Rattle.form.specs.declared.Held.{Held}
 use Rattle.form.specs.declared.Held.the-variants as held
 use Rattle.form.specs.declared.Standing.{Standing}
 use Rattle.form.specs.Form.{stateOf, groundOf, openOf, heldOf}
-use Rattle.form.specs.Inverse.{Stands}
+use Rattle.form.specs.Inverse.{Stands, held-is, not-held, where-zero, no-held}
 use Rattle.ranges.specs.Ranges.{tenthsOf}
 use Rattle.meaning.specs.Reading.{substanceOf}
 use Rattle.conditions.specs.Conditions.{stateIn, groundIn, heldIn, toxicCard}
@@ -47,9 +46,6 @@ cardWith f standing entry tenths =
 
 abbrev pub cardFrom : Fields → Standing → ToxicCard
 cardFrom f standing = cardWith f standing (substanceOf f) (tenthsOf f)
-
-held-is : {a b : Containment} → held.Is a ≡ held.Is b → a ≡ b
-held-is e = cc
 
 state-in : (b : ℕ) (s : State) → stateOf b ≡ stateByte.Is s → stateIn b ≡ s
 unfolding stateOf stateIn
@@ -77,15 +73,10 @@ ground-in b g e = go (eqb b 1) (eqb b 2) e
 
 pub held-in : (b area wall : ℕ) (c : Containment) → heldOf b area wall ≡ held.Is c → heldIn b area wall ≡ c
 unfolding heldOf openOf heldIn
-held-in b area wall c e = go (eqb b 1) (eqb wall 0) (eqb b 2) (eqb b 0) (eqb area 0) e
-  where
-    go : (p q r t u : Bool) → (elim p as (λ _. Held) [ true ↦ held.Is (Dike (record { area = record { 0 = 100 * area }; wall = wall })) | false ↦ elim q as (λ _. Held) [ true ↦ elim r as (λ _. Held) [ true ↦ held.Is (Building (record { floor = record { 0 = 100 * area } })) | false ↦ elim t as (λ _. Held) [ true ↦ elim u as (λ _. Held) [ true ↦ held.Is Open | false ↦ held.Filled ] | false ↦ held.Filled ] ] | false ↦ held.Filled ] ]) ≡ held.Is c → (elim p as (λ _. Containment) [ true ↦ Dike (record { area = record { 0 = 100 * area }; wall = wall }) | false ↦ elim r as (λ _. Containment) [ true ↦ Building (record { floor = record { 0 = 100 * area } }) | false ↦ Open ] ]) ≡ c
-    go true q r t u x = held-is x
-    go false true true t u x = held-is x
-    go false true false true true x = held-is x
-    go false true false true false x = let z : _≡_ {A = ℕ} 0 1 = cc in clash z
-    go false true false false u x = let z : _≡_ {A = ℕ} 0 1 = cc in clash z
-    go false false r t u x = let z : _≡_ {A = ℕ} 0 1 = cc in clash z
+held-in zero area wall c e = held-is (where-zero area (where-zero wall e))
+held-in (suc zero) area wall c e = held-is e
+held-in (suc (suc zero)) area wall c e = held-is (where-zero wall e)
+held-in (suc (suc (suc n))) area wall c e = not-held (sym (no-held (suc (suc (suc n))) area wall (omega arith)) ∙ e)
 
 -- the card of the bytes, and its ground, are those of its form
 module _ (card : List ℕ) (standing : Standing) (from : Stands (fieldsOf card) standing) where

@@ -1,15 +1,15 @@
 -- What a shape tells of the bytes that it was read from, and two containments that the same byte names.
 -- Assumes nothing.
-use Prim.Native.Nat.{ℕ, _*_, _≤_}
+use Prim.Native.Nat.{ℕ, zero, suc, _*_, _≤_, _<_}
 use native.Mathlib.Omega.{arith}
 use native.Mathlib.Nat.{mul-le-mul-left}
 use mathlib.Core.Path.{_≡_, _∙_, refl, sym, ap, subst₂}
 use mathlib.Core.Bool.{Bool, true, false}
 use lib.Dec.{eqb}
-use borrow.Author.Tests.{eqb-true}
+use borrow.Author.Tests.{eqb-true, ne-eqb}
 use Rattle.search.specs.Laws.{clash}
 use Rattle.release.specs.declared.Containment.{Containment}
-use Rattle.release.specs.declared.Containment.the-variants.{Open, Dike, Building}
+use Rattle.release.specs.declared.Containment.the-variants.{Building}
 use Rattle.release.specs.Laws.{Looser, open-open, dike-dike, building-building}
 use Rattle.scenario.specs.declared.State.{State}
 use Rattle.fields.specs.declared.Fields.{Fields}
@@ -26,7 +26,14 @@ use Rattle.form.specs.declared.Shape.{Shape}
 use Rattle.form.specs.declared.Shape.the-variants as shape
 use Rattle.form.specs.Form.{stateOf, groundOf, openOf, heldOf, heatFits, shapedHeat, shapedHeld, shapedState, blank, shapedBlank, shapeOf}
 
--- two constructors that are equal prove anything
+-- a choice by a test taken apart: what follows from either arm follows
+pub by-test : {A P : Type 0} (n k : ℕ) {x y z : A} → (elim (eqb n k) as (λ _. A) [ true ↦ x | false ↦ y ]) ≡ z → (n ≡ k → x ≡ z → P) → (y ≡ z → P) → P
+by-test {A} {P} n k {x} {y} {z} e here on = go (eqb n k) refl e
+  where
+    go : (t : Bool) → eqb n k ≡ t → (elim t as (λ _. A) [ true ↦ x | false ↦ y ]) ≡ z → P
+    go true p q = here (eqb-true n k p) q
+    go false p q = on q
+
 -- the shape that a toxic card has
 not-refused-shape : {standing : Standing} {r : Refusal} → shape.Refused r ≡ shape.Toxic standing → ⊥
 not-refused-shape e = let z : _≡_ {A = ℕ} 0 1 = cc in clash z
@@ -99,34 +106,38 @@ flammable-shape f e = go (eqb (f .kind) 1) (eqb (f .kind) 2) refl e
     go false true p q = eqb-true (f .kind) 2 p
     go false false p q = let z : _≡_ {A = ℕ} 0 1 = cc in clash z
 
+-- a test that a number fails is passed over
+passed-over : {A : Type 0} (n k : ℕ) (x : A) {y : A} → (n ≡ k → ⊥) → (elim (eqb n k) as (λ _. A) [ true ↦ x | false ↦ y ]) ≡ y
+passed-over {A} n k x {y} other = ap (λ t. elim t as (λ _. A) [ true ↦ x | false ↦ y ]) (ne-eqb n k other)
+
+-- a byte above 2 is no containment
+pub no-held : (b area wall : ℕ) → 2 < b → heldOf b area wall ≡ held.Filled
+unfolding heldOf
+no-held b area wall h = passed-over b 1 _ (λ e. omega arith) ∙ go (eqb wall 0)
+  where
+    go : (t : Bool) → (elim t as (λ _. Held) [ true ↦ elim (eqb b 2) as (λ _. Held) [ true ↦ held.Is (Building (record { floor = record { 0 = 100 * area } })) | false ↦ elim (eqb b 0) as (λ _. Held) [ true ↦ openOf area | false ↦ held.Filled ] ] | false ↦ held.Filled ]) ≡ held.Filled
+    go true = passed-over b 2 _ (λ e. omega arith) ∙ passed-over b 0 _ (λ e. omega arith)
+    go false = refl
+
 -- two containments from the same byte, in the order of document 01's counterparts
-held-is : {a b : Containment} → held.Is a ≡ held.Is b → a ≡ b
+pub held-is : {a b : Containment} → held.Is a ≡ held.Is b → a ≡ b
 held-is e = cc
 
-open-looser : (area more : ℕ) {c e : Containment} → openOf area ≡ held.Is c → openOf more ≡ held.Is e → Looser c e
-unfolding openOf
-open-looser area more {c} {e} p q = go (eqb area 0) (eqb more 0) p q
-  where
-    go : (a b : Bool) → (elim a as (λ _. Held) [ true ↦ held.Is Open | false ↦ held.Filled ]) ≡ held.Is c → (elim b as (λ _. Held) [ true ↦ held.Is Open | false ↦ held.Filled ]) ≡ held.Is e → Looser c e
-    go true true x y = subst₂ Looser (held-is x) (held-is y) open-open
-    go true false x y = let z : _≡_ {A = ℕ} 0 1 = cc in clash z
-    go false b x y = let z : _≡_ {A = ℕ} 0 1 = cc in clash z
+pub not-held : {A : Type 0} {c : Containment} → held.Filled ≡ held.Is c → A
+not-held e = clash (cc)
 
-module _ (b area wall more low : ℕ) (dike : b ≡ 1 → (area ≡ more) × (low ≤ wall)) (floor : b ≡ 2 → area ≤ more) where
-  rest : (k m n o : Bool) → eqb b 2 ≡ k → {c e : Containment} → (elim m as (λ _. Held) [ true ↦ elim k as (λ _. Held) [ true ↦ held.Is (Building (record { floor = record { 0 = 100 * area } })) | false ↦ elim o as (λ _. Held) [ true ↦ openOf area | false ↦ held.Filled ] ] | false ↦ held.Filled ]) ≡ held.Is c → (elim n as (λ _. Held) [ true ↦ elim k as (λ _. Held) [ true ↦ held.Is (Building (record { floor = record { 0 = 100 * more } })) | false ↦ elim o as (λ _. Held) [ true ↦ openOf more | false ↦ held.Filled ] ] | false ↦ held.Filled ]) ≡ held.Is e → Looser c e
-  rest true true true o p x y =
-      subst₂ Looser (held-is x) (held-is y) (building-building _ _ (mul-le-mul-left 100 (floor (eqb-true b 2 p))))
-  rest false true true true p x y = open-looser area more x y
-  rest false true true false p x y = let z : _≡_ {A = ℕ} 0 1 = cc in clash z
-  rest k true false o p x y = let z : _≡_ {A = ℕ} 0 1 = cc in clash z
-  rest k false n o p x y = let z : _≡_ {A = ℕ} 0 1 = cc in clash z
+-- what is read where a field is zero, and is refused otherwise
+pub where-zero : (n : ℕ) {h : Held} {c : Containment} → (elim (eqb n 0) as (λ _. Held) [ true ↦ h | false ↦ held.Filled ]) ≡ held.Is c → h ≡ held.Is c
+where-zero n e = by-test n 0 e (λ p q. q) not-held
 
-  first : (k : Bool) → eqb b 1 ≡ k → {c e : Containment} → (elim k as (λ _. Held) [ true ↦ held.Is (Dike (record { area = record { 0 = 100 * area }; wall = wall })) | false ↦ elim (eqb wall 0) as (λ _. Held) [ true ↦ elim (eqb b 2) as (λ _. Held) [ true ↦ held.Is (Building (record { floor = record { 0 = 100 * area } })) | false ↦ elim (eqb b 0) as (λ _. Held) [ true ↦ openOf area | false ↦ held.Filled ] ] | false ↦ held.Filled ] ]) ≡ held.Is c → (elim k as (λ _. Held) [ true ↦ held.Is (Dike (record { area = record { 0 = 100 * more }; wall = low })) | false ↦ elim (eqb low 0) as (λ _. Held) [ true ↦ elim (eqb b 2) as (λ _. Held) [ true ↦ held.Is (Building (record { floor = record { 0 = 100 * more } })) | false ↦ elim (eqb b 0) as (λ _. Held) [ true ↦ openOf more | false ↦ held.Filled ] ] | false ↦ held.Filled ] ]) ≡ held.Is e → Looser c e
-  first true p x y =
-      let d = dike (eqb-true b 1 p) in
-      subst₂ Looser (held-is x) (held-is y) (dike-dike _ _ (λ i. record { 0 = 100 * d .0 i }) (d .1))
-  first false p x y = rest (eqb b 2) (eqb wall 0) (eqb low 0) (eqb b 0) refl x y
-
-  pub held-looser : {c e : Containment} → heldOf b area wall ≡ held.Is c → heldOf b more low ≡ held.Is e → Looser c e
-  unfolding heldOf
-  held-looser x y = first (eqb b 1) refl x y
+-- by the byte: two areas and two walls, of which a dike's and a floor are in order
+pub held-looser : (b area wall more low : ℕ) → (b ≡ 1 → (area ≡ more) × (low ≤ wall)) → (b ≡ 2 → area ≤ more) → {c e : Containment} → heldOf b area wall ≡ held.Is c → heldOf b more low ≡ held.Is e → Looser c e
+unfolding heldOf openOf
+held-looser zero area wall more low dike floor x y =
+    subst₂ Looser (held-is (where-zero area (where-zero wall x))) (held-is (where-zero more (where-zero low y))) open-open
+held-looser (suc zero) area wall more low dike floor x y =
+    let d = dike refl in subst₂ Looser (held-is x) (held-is y) (dike-dike _ _ (λ i. record { 0 = 100 * d .0 i }) (d .1))
+held-looser (suc (suc zero)) area wall more low dike floor x y =
+    subst₂ Looser (held-is (where-zero wall x)) (held-is (where-zero low y)) (building-building _ _ (mul-le-mul-left 100 (floor refl)))
+held-looser (suc (suc (suc n))) area wall more low dike floor x y =
+    not-held (sym (no-held (suc (suc (suc n))) area wall (omega arith)) ∙ x)

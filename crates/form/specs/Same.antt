@@ -24,15 +24,7 @@ use Rattle.form.specs.declared.Held.{Held}
 use Rattle.form.specs.declared.Held.the-variants as held
 use Rattle.form.specs.declared.Shape.the-variants as shape
 use Rattle.form.specs.Form.{stateOf, groundOf, openOf, heldOf, blank, shapedBlank, shapeOf}
-use Rattle.form.specs.Inverse.{flammable-shape}
-
--- a choice by a test taken apart: what follows from either arm follows
-by-test : {A P : Type 0} (n k : ℕ) {x y z : A} → (elim (eqb n k) as (λ _. A) [ true ↦ x | false ↦ y ]) ≡ z → (n ≡ k → x ≡ z → P) → (y ≡ z → P) → P
-by-test {A} {P} n k {x} {y} {z} e here on = go (eqb n k) refl e
-  where
-    go : (t : Bool) → eqb n k ≡ t → (elim t as (λ _. A) [ true ↦ x | false ↦ y ]) ≡ z → P
-    go true p q = here (eqb-true n k p) q
-    go false p q = on q
+use Rattle.form.specs.Inverse.{by-test, not-held, flammable-shape}
 
 -- the byte that a state is read from; one clause a state
 abbrev pub stateIn : StateByte → ℕ
@@ -74,9 +66,6 @@ heldIn held.Filled = (0, 0, 0)
 -- a whole number of square feet from its hundredths
 whole : (area : ℕ) → area ≡ 100 * area / 100
 whole area = omega arith
-
-not-held : {A : Type 0} {c : Containment} → held.Filled ≡ held.Is c → A
-not-held q = clash (cc)
 
 held-told : (b area wall : ℕ) {c : Containment} → heldOf b area wall ≡ held.Is c → _≡_ {A = ℕ × ℕ × ℕ} (b, area, wall) (heldIn (held.Is c))
 unfolding heldOf openOf
