@@ -14,8 +14,8 @@ A description has one card a line, '#' starts a comment:
 Each is a number as the card holds it (area in square feet, wall in hundredths of a foot, temperature in tenths of a
 degree Celsius, or in its place a solution's concentration in tenths of a percent), with commas or none; a CAS number
 with hyphens or none; or a word: toxic flammable; gas pressurized refrigerated liquid solution; rural urban; open dike
-building; '-' for zero. Nothing is held against document 01 but the width of a field, so that a register can be
-described that has to be sent back.
+building shed-with-doors; '-' for zero. Nothing is held against document 01 but the width of a field, so that a register
+can be described that has to be sent back.
 
 A file of cases has for each case:
 
@@ -31,7 +31,7 @@ import sys
 from pathlib import Path
 
 WORDS = [{"toxic": 1, "flammable": 2}, {"gas": 1, "pressurized": 2, "refrigerated": 3, "liquid": 4, "solution": 5},
-         {"rural": 1, "urban": 2}, {"open": 0, "dike": 1, "building": 2}]
+         {"rural": 1, "urban": 2}, {"open": 0, "dike": 1, "building": 2, "shed-with-doors": 3}]
 SOLUTION = WORDS[1]["solution"]
 LISTING = 65535
 

@@ -69,7 +69,7 @@ tableOf card = tableIn (answerOf card 0)
 -- A counterpart, document 01's own term (demand 3), from the bytes of two cards, field by field: "Substance means kind and
 -- CAS number, quantity the pounds, temperature bytes 18 and 19, kind of containment byte 3. Area and wall matter in a dike,
 -- the floor in a building." Bytes 18 and 19 are in state 5 the concentration: document 02's "Ring ordering needs equal
--- concentration" is the same equation.
+-- concentration" is the same equation. A5: "Ring ordering compares 3 with 3 only", and a counterpart has at least the floor.
 pub record Counterpart (x y : List ℕ) : Type 0 where
   pub kind : byteAt x 0 ≡ byteAt y 0
   pub cas : fourAt x 4 ≡ fourAt y 4
@@ -81,6 +81,7 @@ pub record Counterpart (x y : List ℕ) : Type 0 where
   pub dike-area : byteAt x 3 ≡ 1 → fourAt x 12 ≡ fourAt y 12
   pub wall : byteAt x 3 ≡ 1 → twoAt y 16 ≤ twoAt x 16
   pub floor : byteAt x 3 ≡ 2 → fourAt x 12 ≤ fourAt y 12
+  pub shed-floor : byteAt x 3 ≡ 3 → fourAt x 12 ≤ fourAt y 12
   pub route : routeOf x ≡ routeOf y
   pub table : tableOf x ≡ tableOf y
 
@@ -186,6 +187,7 @@ record SameFields (f g : Fields) : Type 0 where
   quantity : f .pounds ≤ g .pounds
   dike : f .containment ≡ 1 → (f .area ≡ g .area) × (g .wall ≤ f .wall)
   floor : f .containment ≡ 2 → f .area ≤ g .area
+  shed-floor : f .containment ≡ 3 → f .area ≤ g .area
 
 same-fields : {x y : List ℕ} → Counterpart x y → SameFields (fieldsOf x) (fieldsOf y)
 unfolding fieldsOf
@@ -200,6 +202,7 @@ same-fields c =
       quantity = c .quantity;
       dike = λ e. (c .dike-area e, c .wall e);
       floor = c .floor;
+      shed-floor = c .shed-floor;
     }
 
 -- two toxic cards: the second is the fuller
@@ -213,7 +216,7 @@ fuller {f} {g} {a} {b} s p q =
       tenths = sym (p .tenths) ∙ (same-tenths f g (s .cas) (s .state) (s .heat) ∙ q .tenths);
       quantity = rw (← (p .quantity), ← (q .quantity)) (s .quantity);
       containment =
-          held-looser (f .containment) (f .area) (f .wall) (g .area) (g .wall) (s .dike) (s .floor) (p .held)
+          held-looser (f .containment) (f .area) (f .wall) (g .area) (g .wall) (s .dike) (s .floor) (s .shed-floor) (p .held)
           (ap (λ k. heldOf k (g .area) (g .wall)) (s .containment) ∙ q .held);
     }
 

@@ -24,7 +24,7 @@ use Rattle.dispersion.specs.Tables.{Table, ranges, grid, lines, unprinted, tabl
 use Rattle.blast.specs.Blast.{casOf}
 use Rattle.blast.specs.Printed13.{table13}
 use Rattle.release.specs.declared.Containment.{Containment}
-use Rattle.release.specs.declared.Containment.the-variants.{Open, Dike, Building}
+use Rattle.release.specs.declared.Containment.the-variants.{Open, Dike, Building, ShedWithDoors}
 use Rattle.scenario.specs.declared.State.{State}
 use Rattle.scenario.specs.declared.State.the-variants.{Gas, Pressurized, Refrigerated, Liquid, Solution}
 use Rattle.scenario.specs.declared.ToxicCard.{ToxicCard}
@@ -74,8 +74,8 @@ badToxic card =
     unlisted (byteAt card 1) (1 ∷ 2 ∷ 3 ∷ 4 ∷ 5 ∷ [])
     -- "2: ground, 1 rural, 2 urban."
     ∷ unlisted (byteAt card 2) (1 ∷ 2 ∷ [])
-    -- "3: containment, 0 open, 1 dike, 2 building."
-    ∷ unlisted (byteAt card 3) (0 ∷ 1 ∷ 2 ∷ [])
+    -- "3: containment, 0 open, 1 dike, 2 building."; document 02, A5: "Byte 3 admits 3"
+    ∷ unlisted (byteAt card 3) (0 ∷ 1 ∷ 2 ∷ 3 ∷ [])
     -- "12 to 15: dike or floor area ..; zero if open."
     ∷ both (eqb (byteAt card 3) 0) (filled card (12 ∷ 13 ∷ 14 ∷ 15 ∷ []))
     -- "16, 17: wall ..; zero unless a dike."
@@ -212,12 +212,17 @@ stateIn b =
 unfoldable pub groundIn : ℕ → Ground
 groundIn b = elim (eqb b 1) [ true ↦ Rural | false ↦ Urban ]
 
--- "open, a dike with its area and wall, or a building with its floor"; areas in hundredths of a square foot
+-- "open, a dike with its area and wall, or a building with its floor", and 3 a shed with doors with its floor; areas in hundredths of
+-- a square foot
 unfoldable pub heldIn : ℕ → ℕ → ℕ → Containment
 heldIn b area wall =
     elim (eqb b 1) [
       | true ↦ Dike (record { area = record { 0 = 100 * area }; wall = wall })
-      | false ↦ elim (eqb b 2) [ true ↦ Building (record { floor = record { 0 = 100 * area } }) | false ↦ Open ]
+      | false ↦
+          elim (eqb b 2) [
+            | true ↦ Building (record { floor = record { 0 = 100 * area } })
+            | false ↦ elim (eqb b 3) [ true ↦ ShedWithDoors (record { floor = record { 0 = 100 * area } }) | false ↦ Open ]
+          ]
     ]
 
 -- a toxic card in meaning

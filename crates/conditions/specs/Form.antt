@@ -12,7 +12,7 @@ use Rattle.search.specs.Laws.{clash}
 use Rattle.search.specs.Rising.{both}
 use Rattle.search.specs.Places.{either, among}
 use Rattle.dispersion.specs.declared.Ground.the-variants.{Rural, Urban}
-use Rattle.release.specs.declared.Containment.the-variants.{Open, Building}
+use Rattle.release.specs.declared.Containment.the-variants.{Open, Building, ShedWithDoors}
 use Rattle.scenario.specs.declared.State.{State}
 use Rattle.scenario.specs.declared.State.the-variants.{Gas, Pressurized, Refrigerated, Liquid, Solution}
 use Rattle.fields.specs.declared.Fields.{Fields}
@@ -142,7 +142,7 @@ ground-form b = go (eqb b 1) (eqb b 2)
     go false true = refl
     go false false = refl
 
-held-form : (b area wall : ℕ) → either (unlisted b (0 ∷ 1 ∷ 2 ∷ [])) (either (both (eqb b 0) (not (eqb area 0))) (both (not (eqb b 1)) (not (eqb wall 0)))) ≡ isFilled (heldOf b area wall)
+held-form : (b area wall : ℕ) → either (unlisted b (0 ∷ 1 ∷ 2 ∷ 3 ∷ [])) (either (both (eqb b 0) (not (eqb area 0))) (both (not (eqb b 1)) (not (eqb wall 0)))) ≡ isFilled (heldOf b area wall)
 unfolding unlisted among heldOf openOf
 held-form zero area wall = go (eqb area 0) (eqb wall 0)
   where
@@ -157,8 +157,13 @@ held-form (suc (suc zero)) area wall = go (eqb wall 0)
     go : (q : Bool) → not q ≡ isFilled (elim q as (λ _. Held) [ true ↦ held.Is (Building (record { floor = record { 0 = 100 * area } })) | false ↦ held.Filled ])
     go true = refl
     go false = refl
-held-form (suc (suc (suc n))) area wall =
-    rw (no-held (suc (suc (suc n))) area wall (omega arith), ne-eqb (suc (suc (suc n))) 0 (λ e. omega arith), ne-eqb (suc (suc (suc n))) 1 (λ e. omega arith), ne-eqb (suc (suc (suc n))) 2 (λ e. omega arith))
+held-form (suc (suc (suc zero))) area wall = go (eqb wall 0)
+  where
+    go : (q : Bool) → not q ≡ isFilled (elim q as (λ _. Held) [ true ↦ held.Is (ShedWithDoors (record { floor = record { 0 = 100 * area } })) | false ↦ held.Filled ])
+    go true = refl
+    go false = refl
+held-form (suc (suc (suc (suc n)))) area wall =
+    rw (no-held (suc (suc (suc (suc n)))) area wall (omega arith), ne-eqb (suc (suc (suc (suc n)))) 0 (λ e. omega arith), ne-eqb (suc (suc (suc (suc n)))) 1 (λ e. omega arith), ne-eqb (suc (suc (suc (suc n)))) 2 (λ e. omega arith), ne-eqb (suc (suc (suc (suc n)))) 3 (λ e. omega arith))
 
 -- a byte above 5 is no state
 pub no-state : (b : ℕ) → 5 < b → stateOf b ≡ stateByte.Unlisted
@@ -214,7 +219,7 @@ module _ (card : List ℕ) where
   noPlace = unlisted (byteAt card 2) (1 ∷ 2 ∷ [])
 
   abbrev noVessel : Bool
-  noVessel = unlisted (byteAt card 3) (0 ∷ 1 ∷ 2 ∷ [])
+  noVessel = unlisted (byteAt card 3) (0 ∷ 1 ∷ 2 ∷ 3 ∷ [])
 
   abbrev strayArea : Bool
   strayArea = both (eqb (byteAt card 3) 0) (filled card (12 ∷ 13 ∷ 14 ∷ 15 ∷ []))

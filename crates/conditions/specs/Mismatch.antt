@@ -27,7 +27,7 @@ use Rattle.exhibits.specs.Solutions.{solutionOf}
 use Rattle.exhibits.specs.SolutionLaws.{Says, a-line, out-of-range, not-listed, says}
 use Rattle.rules.specs.Rules.{larger, closest}
 use Rattle.release.specs.declared.Containment.{Containment}
-use Rattle.release.specs.declared.Containment.the-variants.{Open, Dike, Building}
+use Rattle.release.specs.declared.Containment.the-variants.{Open, Dike, Building, ShedWithDoors}
 use Rattle.release.specs.Pool.{beyondDike}
 use Rattle.scenario.specs.declared.State.{State}
 use Rattle.scenario.specs.declared.Tenths.{Tenths}
@@ -54,9 +54,10 @@ use Rattle.ranges.specs.Ranges.{signed, isOutOfRange}
 use Rattle.meaning.specs.Reading.{isListed, substanceOf}
 use Rattle.meaning.specs.States.{by-state}
 use Rattle.form.specs.Inverse.{Stands}
-use Rattle.conditions.specs.Conditions.{anyOf, ofGas, ofLiquid, columnRead, cellRead, withoutData, aboveFifty, heldIn, mismatched}
+use Rattle.form.specs.Same.{held-bytes}
+use Rattle.conditions.specs.Conditions.{anyOf, ofGas, ofLiquid, columnRead, cellRead, withoutData, aboveFifty, mismatched}
 use Rattle.conditions.specs.Form.{state-is, no-state}
-use Rattle.conditions.specs.Vessel.{cardWith, cardFrom, held-in}
+use Rattle.conditions.specs.Vessel.{cardWith, cardFrom}
 use Rattle.conditions.specs.Substances.{Seen, a-gas, a-liquid, neither, seen}
 
 -- the column that is read is the closest, at every tenth of a degree up to 50.0
@@ -140,21 +141,20 @@ abbrev isDike : Containment → Bool
 isDike Open = false
 isDike (Dike d) = true
 isDike (Building b) = false
+isDike (ShedWithDoors s) = false
 
 -- byte 3 is 1 exactly for a dike
 dike-byte : (b area wall : ℕ) (c : Containment) → heldOf b area wall ≡ held.Is c → eqb b 1 ≡ isDike c
-unfolding heldIn
-dike-byte b area wall c e = go (eqb b 1) (eqb b 2) ∙ ap isDike (held-in b area wall c e)
-  where
-    go : (p r : Bool) → p ≡ isDike (elim p as (λ _. Containment) [ true ↦ Dike (record { area = record { 0 = 100 * area }; wall = wall }) | false ↦ elim r as (λ _. Containment) [ true ↦ Building (record { floor = record { 0 = 100 * area } }) | false ↦ Open ] ])
-    go true r = refl
-    go false true = refl
-    go false false = refl
+dike-byte b area wall Open e = ap (λ k. eqb k 1) (held-bytes b area wall e .0)
+dike-byte b area wall (Dike d) e = ap (λ k. eqb k 1) (held-bytes b area wall e .0)
+dike-byte b area wall (Building d) e = ap (λ k. eqb k 1) (held-bytes b area wall e .0)
+dike-byte b area wall (ShedWithDoors d) e = ap (λ k. eqb k 1) (held-bytes b area wall e .0)
 
 undiked-mismatch : (c : Containment) (s : Scenario) → isDike c ≡ isMismatch (undiked c s)
 undiked-mismatch Open s = refl
 undiked-mismatch (Dike d) s = refl
 undiked-mismatch (Building b) s = refl
+undiked-mismatch (ShedWithDoors d) s = refl
 
 pooled-fits : (b : Bool) (s t : Scenario) → false ≡ isMismatch (pooled b s t)
 pooled-fits true s t = refl

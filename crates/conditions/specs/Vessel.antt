@@ -76,7 +76,8 @@ unfolding heldOf openOf heldIn
 held-in zero area wall c e = held-is (where-zero area (where-zero wall e))
 held-in (suc zero) area wall c e = held-is e
 held-in (suc (suc zero)) area wall c e = held-is (where-zero wall e)
-held-in (suc (suc (suc n))) area wall c e = not-held (sym (no-held (suc (suc (suc n))) area wall (omega arith)) ∙ e)
+held-in (suc (suc (suc zero))) area wall c e = held-is (where-zero wall e)
+held-in (suc (suc (suc (suc n)))) area wall c e = not-held (sym (no-held (suc (suc (suc (suc n)))) area wall (omega arith)) ∙ e)
 
 -- the card of the bytes, and its ground, are those of its form
 module _ (card : List ℕ) (standing : Standing) (from : Stands (fieldsOf card) standing) where

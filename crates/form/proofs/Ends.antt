@@ -13,7 +13,7 @@ use Rattle.units.specs.declared.SquareFeet.{SquareFeet}
 use Rattle.dispersion.specs.declared.Ground.{Ground}
 use Rattle.dispersion.specs.declared.Ground.the-variants.{Rural, Urban}
 use Rattle.release.specs.declared.Containment.{Containment}
-use Rattle.release.specs.declared.Containment.the-variants.{Open, Dike, Building}
+use Rattle.release.specs.declared.Containment.the-variants.{Open, Dike, Building, ShedWithDoors}
 use Rattle.scenario.specs.declared.State.{State}
 use Rattle.scenario.specs.declared.State.the-variants.{Gas, Pressurized, Refrigerated, Liquid, Solution}
 use Rattle.fields.specs.declared.Fields.{Fields}
@@ -86,9 +86,15 @@ module _ (b area wall : ℕ) where
   unfolding heldOf
   held-open r n w m e q = simp (ne-eqb b 1 n, eq-eqb wall 0 w, ne-eqb b 2 m, eq-eqb b 0 e, heldOf) q
 
-  pub held-none : (b ≡ 1 → ⊥) → wall ≡ 0 → (b ≡ 2 → ⊥) → (b ≡ 0 → ⊥) → held.Filled ≡ heldOf b area wall
+  pub held-shed : (feet : SquareFeet) → feet .0 ≡ 100 * area → (b ≡ 1 → ⊥) → wall ≡ 0 → (b ≡ 2 → ⊥) → (b ≡ 0 → ⊥) → b ≡ 3 → held.Is (ShedWithDoors (record { floor = feet })) ≡ heldOf b area wall
   unfolding heldOf
-  held-none n w m k = simp (ne-eqb b 1 n, eq-eqb wall 0 w, ne-eqb b 2 m, ne-eqb b 0 k, heldOf)
+  held-shed feet q n w m k e =
+      simp (ne-eqb b 1 n, eq-eqb wall 0 w, ne-eqb b 2 m, ne-eqb b 0 k, eq-eqb b 3 e, heldOf)
+      (λ i. held.Is (ShedWithDoors (record { floor = record { 0 = q i } })))
+
+  pub held-none : (b ≡ 1 → ⊥) → wall ≡ 0 → (b ≡ 2 → ⊥) → (b ≡ 0 → ⊥) → (b ≡ 3 → ⊥) → held.Filled ≡ heldOf b area wall
+  unfolding heldOf
+  held-none n w m k s = simp (ne-eqb b 1 n, eq-eqb wall 0 w, ne-eqb b 2 m, ne-eqb b 0 k, ne-eqb b 3 s, heldOf)
 
 pub open-zero : (area : ℕ) → area ≡ 0 → held.Is Open ≡ openOf area
 unfolding openOf

@@ -5,7 +5,7 @@ use mathlib.Core.Bool.{Bool, true, false}
 use lib.Dec.{eqb}
 use Rattle.search.specs.Rising.{both}
 use Rattle.dispersion.specs.declared.Ground.the-variants.{Rural, Urban}
-use Rattle.release.specs.declared.Containment.the-variants.{Open, Dike, Building}
+use Rattle.release.specs.declared.Containment.the-variants.{Open, Dike, Building, ShedWithDoors}
 use Rattle.scenario.specs.declared.State.{State}
 use Rattle.scenario.specs.declared.State.the-variants.{Gas, Pressurized, Refrigerated, Liquid, Solution}
 use Rattle.fields.specs.declared.Fields.{Fields}
@@ -52,7 +52,8 @@ unfoldable pub openOf : ℕ → Held
 openOf area = elim (eqb area 0) [ true ↦ held.Is Open | false ↦ held.Filled ]
 
 -- "3: containment, 0 open, 1 dike, 2 building"; the area is "zero if open", the wall "zero unless a dike". "In meaning, a
--- card's containment is open, a dike with its area and wall, or a building with its floor."
+-- card's containment is open, a dike with its area and wall, or a building with its floor." Document 02, A5: "Byte 3 admits 3, with the
+-- area rules of 2."
 unfoldable pub heldOf : ℕ → ℕ → ℕ → Held
 heldOf b area wall =
     elim (eqb b 1) [
@@ -62,7 +63,15 @@ heldOf b area wall =
             | true ↦
                 elim (eqb b 2) [
                   | true ↦ held.Is (Building (record { floor = record { 0 = 100 * area } }))
-                  | false ↦ elim (eqb b 0) [ true ↦ openOf area | false ↦ held.Filled ]
+                  | false ↦
+                      elim (eqb b 0) [
+                        | true ↦ openOf area
+                        | false ↦
+                            elim (eqb b 3) [
+                              | true ↦ held.Is (ShedWithDoors (record { floor = record { 0 = 100 * area } }))
+                              | false ↦ held.Filled
+                            ]
+                      ]
                 ]
             | false ↦ held.Filled
           ]

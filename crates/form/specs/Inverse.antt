@@ -9,8 +9,8 @@ use lib.Dec.{eqb}
 use borrow.Author.Tests.{eqb-true, ne-eqb}
 use Rattle.search.specs.Laws.{clash}
 use Rattle.release.specs.declared.Containment.{Containment}
-use Rattle.release.specs.declared.Containment.the-variants.{Building}
-use Rattle.release.specs.Laws.{Looser, open-open, dike-dike, building-building}
+use Rattle.release.specs.declared.Containment.the-variants.{Building, ShedWithDoors}
+use Rattle.release.specs.Laws.{Looser, open-open, dike-dike, building-building, shed-shed}
 use Rattle.scenario.specs.declared.State.{State}
 use Rattle.fields.specs.declared.Fields.{Fields}
 use Rattle.refusals.specs.declared.Refusal.{Refusal}
@@ -110,13 +110,13 @@ flammable-shape f e = go (eqb (f .kind) 1) (eqb (f .kind) 2) refl e
 passed-over : {A : Type 0} (n k : ℕ) (x : A) {y : A} → (n ≡ k → ⊥) → (elim (eqb n k) as (λ _. A) [ true ↦ x | false ↦ y ]) ≡ y
 passed-over {A} n k x {y} other = ap (λ t. elim t as (λ _. A) [ true ↦ x | false ↦ y ]) (ne-eqb n k other)
 
--- a byte above 2 is no containment
-pub no-held : (b area wall : ℕ) → 2 < b → heldOf b area wall ≡ held.Filled
+-- a byte above 3 is no containment
+pub no-held : (b area wall : ℕ) → 3 < b → heldOf b area wall ≡ held.Filled
 unfolding heldOf
 no-held b area wall h = passed-over b 1 _ (λ e. omega arith) ∙ go (eqb wall 0)
   where
-    go : (t : Bool) → (elim t as (λ _. Held) [ true ↦ elim (eqb b 2) as (λ _. Held) [ true ↦ held.Is (Building (record { floor = record { 0 = 100 * area } })) | false ↦ elim (eqb b 0) as (λ _. Held) [ true ↦ openOf area | false ↦ held.Filled ] ] | false ↦ held.Filled ]) ≡ held.Filled
-    go true = passed-over b 2 _ (λ e. omega arith) ∙ passed-over b 0 _ (λ e. omega arith)
+    go : (t : Bool) → (elim t as (λ _. Held) [ true ↦ elim (eqb b 2) as (λ _. Held) [ true ↦ held.Is (Building (record { floor = record { 0 = 100 * area } })) | false ↦ elim (eqb b 0) as (λ _. Held) [ true ↦ openOf area | false ↦ elim (eqb b 3) as (λ _. Held) [ true ↦ held.Is (ShedWithDoors (record { floor = record { 0 = 100 * area } })) | false ↦ held.Filled ] ] ] | false ↦ held.Filled ]) ≡ held.Filled
+    go true = passed-over b 2 _ (λ e. omega arith) ∙ (passed-over b 0 _ (λ e. omega arith) ∙ passed-over b 3 _ (λ e. omega arith))
     go false = refl
 
 -- two containments from the same byte, in the order of document 01's counterparts
@@ -131,13 +131,15 @@ pub where-zero : (n : ℕ) {h : Held} {c : Containment} → (elim (eqb n 0) as (
 where-zero n e = by-test n 0 e (λ p q. q) not-held
 
 -- by the byte: two areas and two walls, of which a dike's and a floor are in order
-pub held-looser : (b area wall more low : ℕ) → (b ≡ 1 → (area ≡ more) × (low ≤ wall)) → (b ≡ 2 → area ≤ more) → {c e : Containment} → heldOf b area wall ≡ held.Is c → heldOf b more low ≡ held.Is e → Looser c e
+pub held-looser : (b area wall more low : ℕ) → (b ≡ 1 → (area ≡ more) × (low ≤ wall)) → (b ≡ 2 → area ≤ more) → (b ≡ 3 → area ≤ more) → {c e : Containment} → heldOf b area wall ≡ held.Is c → heldOf b more low ≡ held.Is e → Looser c e
 unfolding heldOf openOf
-held-looser zero area wall more low dike floor x y =
+held-looser zero area wall more low dike floor shed x y =
     subst₂ Looser (held-is (where-zero area (where-zero wall x))) (held-is (where-zero more (where-zero low y))) open-open
-held-looser (suc zero) area wall more low dike floor x y =
+held-looser (suc zero) area wall more low dike floor shed x y =
     let d = dike refl in subst₂ Looser (held-is x) (held-is y) (dike-dike _ _ (λ i. record { 0 = 100 * d .0 i }) (d .1))
-held-looser (suc (suc zero)) area wall more low dike floor x y =
+held-looser (suc (suc zero)) area wall more low dike floor shed x y =
     subst₂ Looser (held-is (where-zero wall x)) (held-is (where-zero low y)) (building-building _ _ (mul-le-mul-left 100 (floor refl)))
-held-looser (suc (suc (suc n))) area wall more low dike floor x y =
-    not-held (sym (no-held (suc (suc (suc n))) area wall (omega arith)) ∙ x)
+held-looser (suc (suc (suc zero))) area wall more low dike floor shed x y =
+    subst₂ Looser (held-is (where-zero wall x)) (held-is (where-zero low y)) (shed-shed _ _ (mul-le-mul-left 100 (shed refl)))
+held-looser (suc (suc (suc (suc n)))) area wall more low dike floor shed x y =
+    not-held (sym (no-held (suc (suc (suc (suc n)))) area wall (omega arith)) ∙ x)

@@ -12,7 +12,7 @@ use Rattle.search.specs.Laws.{clash, both-true}
 use Rattle.dispersion.specs.declared.Ground.{Ground}
 use Rattle.dispersion.specs.declared.Ground.the-variants.{Rural, Urban}
 use Rattle.release.specs.declared.Containment.{Containment}
-use Rattle.release.specs.declared.Containment.the-variants.{Open, Dike, Building}
+use Rattle.release.specs.declared.Containment.the-variants.{Open, Dike, Building, ShedWithDoors}
 use Rattle.scenario.specs.declared.State.{State}
 use Rattle.scenario.specs.declared.State.the-variants.{Gas, Pressurized, Refrigerated, Liquid, Solution}
 use Rattle.fields.specs.declared.Fields.{Fields}
@@ -61,6 +61,7 @@ abbrev pub heldIn : Held → ℕ × ℕ × ℕ
 heldIn (held.Is Open) = (0, 0, 0)
 heldIn (held.Is (Dike d)) = (1, d .area .0 / 100, d .wall)
 heldIn (held.Is (Building x)) = (2, x .floor .0 / 100, 0)
+heldIn (held.Is (ShedWithDoors x)) = (3, x .floor .0 / 100, 0)
 heldIn held.Filled = (0, 0, 0)
 
 -- a whole number of square feet from its hundredths
@@ -73,7 +74,8 @@ held-told b area wall e =
     by-test b 1 e (λ p q. (λ i. (p i, whole area i, wall)) ∙ ap heldIn q)
     (λ q. by-test wall 0 q
     (λ w q. by-test b 2 q (λ p q. (λ i. (p i, whole area i, w i)) ∙ ap heldIn q)
-    (λ q. by-test b 0 q (λ p q. by-test area 0 q (λ a q. (λ i. (p i, a i, w i)) ∙ ap heldIn q) not-held) not-held))
+    (λ q. by-test b 0 q (λ p q. by-test area 0 q (λ a q. (λ i. (p i, a i, w i)) ∙ ap heldIn q) not-held)
+    (λ q. by-test b 3 q (λ p q. (λ i. (p i, whole area i, w i)) ∙ ap heldIn q) not-held)))
     not-held)
 
 pub held-bytes : (b area wall : ℕ) {c : Containment} → heldOf b area wall ≡ held.Is c → (b ≡ heldIn (held.Is c) .0) × (area ≡ heldIn (held.Is c) .1) × (wall ≡ heldIn (held.Is c) .2)

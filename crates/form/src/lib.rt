@@ -5,6 +5,7 @@ use refusals::Refusal;
 use release::Building;
 use release::Containment;
 use release::Dike;
+use release::ShedWithDoors;
 use scenario::State;
 ghost use mathlib.Core.Path.{_≡_};
 ghost use Rattle.form.specs.Form.{stateOf, groundOf, heldOf, heatFits, shapedState, blank, shapeOf};
@@ -98,6 +99,9 @@ fn held_of(byte: u8, area: u32, wall: u16) -> Held
     }
     if byte == 0 {
         return open_of(area);
+    }
+    if byte == 3 {
+        return Held::Is(Containment::ShedWithDoors(ShedWithDoors { floor: feet }));
     }
     Held::Filled
 }

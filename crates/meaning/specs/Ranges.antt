@@ -18,7 +18,7 @@ use Rattle.dispersion.specs.declared.Ground.the-variants.{Rural, Urban}
 use Rattle.blast.specs.Blast.{isFlammable}
 use Rattle.blast.specs.Laws as blast
 use Rattle.release.specs.declared.Containment.{Containment}
-use Rattle.release.specs.declared.Containment.the-variants.{Open, Dike, Building}
+use Rattle.release.specs.declared.Containment.the-variants.{Open, Dike, Building, ShedWithDoors}
 use Rattle.scenario.specs.declared.State.{State}
 use Rattle.scenario.specs.declared.State.the-variants.{Gas, Pressurized, Refrigerated, Liquid, Solution}
 use Rattle.fields.specs.declared.Fields.{Fields}
@@ -48,7 +48,7 @@ pub record Ranged (f : Fields) : Type 0 where
   pub kind : f .kind ≤ 2
   pub state : f .state ≤ 5
   pub ground : f .ground ≤ 2
-  pub containment : f .containment ≤ 2
+  pub containment : f .containment ≤ 3
   pub cas : f .cas < 100_000_000
   pub pounds : f .pounds ≤ 10_000_000
   pub area : f .area ≤ 1_000_000
@@ -73,11 +73,12 @@ tenths-within f =
     either-end n (inr h) = inr (h, n)
 
 -- "zero if open"; else the area is in range
-held-within : (c : Containment) (b area wall : ℕ) → heldOf b area wall ≡ held.Is c → badArea b area ≡ false → (b ≤ 2) × (area ≤ 1_000_000)
+held-within : (c : Containment) (b area wall : ℕ) → heldOf b area wall ≡ held.Is c → badArea b area ≡ false → (b ≤ 3) × (area ≤ 1_000_000)
 unfolding badArea
 held-within Open b area wall h e = omega (arith, held-bytes b area wall h)
 held-within (Dike d) b area wall h e = let k = held-bytes b area wall h .0 in (omega arith, area-within area (rw k at e))
 held-within (Building x) b area wall h e = let k = held-bytes b area wall h .0 in (omega arith, area-within area (rw k at e))
+held-within (ShedWithDoors x) b area wall h e = let k = held-bytes b area wall h .0 in (omega arith, area-within area (rw k at e))
 
 -- ---- the codes
 

@@ -13,6 +13,7 @@ use Rattle.register.specs.Register.{outcomeOf}
 use Rattle.conditions.specs.Conditions.{Condition, condition, unlisted, filled, badToxic, badFlammable, badForm, ofGas, ofLiquid, ofTable13, ofSolution, badCas, mismatched, aboveLast, lastInUse, beyondTable, stateIn, groundIn, heldIn, beyond, ofRegister, ofCard, only, conditionsAt}
 use Rattle.promises.specs.Starred.{cardOf, registerOf, chlorine, ammonia, bromine, propane, rural, urban, in-open, in-dike, computed}
 use Rattle.promises.specs.Solutions.{hydrochloric}
+use Rattle.promises.specs.Sheds.{with-doors}
 
 -- a register, the length of the answer buffer, and the number and place that it is sent back with
 pub record Example : Type 0 where
@@ -80,6 +81,11 @@ examples =
     ∷ card 7 (cardOf 1 4 rural in-open 8014957 10_000 0 0 250 1)
     -- state 6 is none
     ∷ card 6 (cardOf 1 6 rural in-open 7647010 10_000 0 0 370 1)
+    -- "Byte 3 admits 3, with the area rules of 2": no floor, a floor above the largest, a wall; and 4 is none
+    ∷ card 9 (bromine with-doors 0 0 1)
+    ∷ card 9 (hydrochloric rural with-doors 10_000 1_000_001 0 370 1)
+    ∷ card 6 (bromine with-doors 100 1 1)
+    ∷ card 6 (bromine 4 100 0 1)
     ∷ []
 
 -- the number and the place of a call that is sent back

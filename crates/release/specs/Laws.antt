@@ -11,7 +11,8 @@ use borrow.Author.Tests.{le-leb, lt-leb, leb-true, leb-false, lt-ltb, le-ltb}
 use Rattle.release.specs.declared.Containment.{Containment}
 use Rattle.release.specs.declared.Dike.{Dike as DikeOf}
 use Rattle.release.specs.declared.Building.{Building as BuildingOf}
-use Rattle.release.specs.declared.Containment.the-variants.{Open, Dike, Building}
+use Rattle.release.specs.declared.ShedWithDoors.{ShedWithDoors as ShedOf}
+use Rattle.release.specs.declared.Containment.the-variants.{Open, Dike, Building, ShedWithDoors}
 use Rattle.search.specs.Laws.{lt-or-ge}
 use Rattle.release.specs.Pool.{fullArea, dikedArea, poolArea, gasRate, poolRate, held, spilt, ceilDiv, atMostTenMinutes}
 
@@ -40,6 +41,7 @@ pub area-full : (pounds df : ℕ) (c : Containment) → poolArea pounds df c ≤
 area-full pounds df Open = le-refl (fullArea pounds df)
 area-full pounds df (Dike d) = rw (diked-closed (fullArea pounds df) (d .area .0) (d .wall)) (omega arith)
 area-full pounds df (Building b) = omega arith
+area-full pounds df (ShedWithDoors s) = omega arith
 
 -- the products fit: by the widths of a card's pounds and of DF, and at document 01's limits
 pub full-below : (pounds df : ℕ) → pounds < 2 ^ 32 → df < 2 ^ 8 → fullArea pounds df < 2 ^ 40
@@ -70,6 +72,7 @@ pub data Looser : Containment → Containment → Type 0 where
   open-open : Looser Open Open
   dike-dike : (d e : DikeOf) → d .area ≡ e .area → e .wall ≤ d .wall → Looser (Dike d) (Dike e)
   building-building : (b e : BuildingOf) → b .floor .0 ≤ e .floor .0 → Looser (Building b) (Building e)
+  shed-shed : (s e : ShedOf) → s .floor .0 ≤ e .floor .0 → Looser (ShedWithDoors s) (ShedWithDoors e)
 
 closed-mono : (full more area wall low : ℕ) → full ≤ more → low ≤ wall → closedForm full area wall ≤ closedForm more area low
 closed-mono full more area wall low f w =
@@ -82,6 +85,8 @@ area-mono df {p} {q} h (dike-dike d e a w) =
     rw (diked-closed (fullArea p df) (d .area .0) (d .wall), diked-closed (fullArea q df) (e .area .0) (e .wall), ← a)
     (closed-mono (fullArea p df) (fullArea q df) (d .area .0) (d .wall) (e .wall) (mul-le-mul-right df h) w)
 area-mono df {p} {q} h (building-building b e f) =
+    let g : fullArea p df ≤ fullArea q df = mul-le-mul-right df h in omega arith
+area-mono df {p} {q} h (shed-shed s e f) =
     let g : fullArea p df ≤ fullArea q df = mul-le-mul-right df h in omega arith
 
 -- at document 01's limits a pool's area is one that `pool_rate` takes

@@ -5,7 +5,7 @@ use Prim.Native.Nat.{ℕ, _+_, _-_, _*_, _/_, min}
 use mathlib.Core.Bool.{Bool, true, false}
 use lib.Dec.{leb, ltb}
 use Rattle.release.specs.declared.Containment.{Containment}
-use Rattle.release.specs.declared.Containment.the-variants.{Open, Dike, Building}
+use Rattle.release.specs.declared.Containment.the-variants.{Open, Dike, Building, ShedWithDoors}
 
 -- a / b rounded up, for b above 0
 abbrev pub ceilDiv : ℕ → ℕ → ℕ
@@ -36,11 +36,13 @@ dikedArea full area wall =
           ]
     ]
 
--- "Open: the full area. Building: the smaller of floor and full area."
+-- "Open: the full area. Building: the smaller of floor and full area." Document 02, A5: in containment 3 "a pool has the smaller of
+-- floor and full area" too.
 abbrev pub poolArea : ℕ → ℕ → Containment → ℕ
 poolArea pounds df Open = fullArea pounds df
 poolArea pounds df (Dike d) = dikedArea (fullArea pounds df) (d .area .0) (d .wall)
 poolArea pounds df (Building b) = min (b .floor .0) (fullArea pounds df)
+poolArea pounds df (ShedWithDoors s) = min (s .floor .0) (fullArea pounds df)
 
 -- "Route 1, gas over ten minutes: pounds / 10; in a building × 0.55 as well."
 abbrev pub gasRate : ℕ → Bool → ℕ
@@ -60,10 +62,12 @@ atMostTenMinutes pounds rate = leb (1000 * pounds) (10 * rate)
 abbrev pub beyondDike : ℕ → ℕ → Containment → Bool
 beyondDike pounds df Open = false
 beyondDike pounds df (Building b) = false
+beyondDike pounds df (ShedWithDoors s) = false
 beyondDike pounds df (Dike d) = ltb (d .area .0) (fullArea pounds df)
 
--- "in a building"
+-- "in a building"; document 02, A5: "Containment 3 is a building without the factor"
 abbrev pub isBuilding : Containment → Bool
 isBuilding Open = false
 isBuilding (Dike d) = false
 isBuilding (Building b) = true
+isBuilding (ShedWithDoors s) = false

@@ -17,11 +17,17 @@ pub struct Building {
     pub floor: SquareFeet,
 }
 
-// What holds a spill: nothing, a dike or a building.
+// A shed with doors, document 02's own term: a building whose walls hold no vapor back, and its floor.
+pub struct ShedWithDoors {
+    pub floor: SquareFeet,
+}
+
+// What holds a spill: nothing, a dike, a building or a shed with doors.
 pub enum Containment {
     Open,
     Dike(Dike),
     Building(Building),
+    ShedWithDoors(ShedWithDoors),
 }
 
 // Pounds, from a card's whole number.
@@ -96,6 +102,10 @@ pub fn pool_area(quantity: Pounds, df: u8, containment: Containment) -> SquareFe
             let floor = building.floor.0;
             SquareFeet(smaller(floor, full_area(quantity, df)))
         }
+        Containment::ShedWithDoors(shed) => {
+            let floor = shed.floor.0;
+            SquareFeet(smaller(floor, full_area(quantity, df)))
+        }
     }
 }
 
@@ -147,10 +157,11 @@ pub fn beyond_dike(quantity: Pounds, df: u8, containment: Containment) -> bool
             area < full_area(quantity, df)
         }
         Containment::Building(_) => false,
+        Containment::ShedWithDoors(_) => false,
     }
 }
 
-// Whether the containment is a building.
+// Whether the containment is a building, with the factors of one.
 pub fn is_building(containment: Containment) -> bool
     ensures { λ r. ⌜ r ≡ isBuilding containment ⌝ }
 {
@@ -158,5 +169,6 @@ pub fn is_building(containment: Containment) -> bool
         Containment::Open => false,
         Containment::Dike(_) => false,
         Containment::Building(_) => true,
+        Containment::ShedWithDoors(_) => false,
     }
 }

@@ -11,9 +11,9 @@ use Rattle.exhibits.specs.declared.Toxic.the-variants as variants
 use Rattle.exhibits.specs.declared.Gas as gases
 use Rattle.exhibits.specs.declared.Liquid as liquids
 use Rattle.release.specs.declared.Containment.{Containment}
-use Rattle.release.specs.declared.Containment.the-variants.{Open, Dike, Building}
+use Rattle.release.specs.declared.Containment.the-variants.{Open, Dike, Building, ShedWithDoors}
 use Rattle.release.specs.Pool.{gasRate, beyondDike, isBuilding}
-use Rattle.release.specs.Laws.{Looser, open-open, dike-dike, building-building, area-mono, gas-mono, pool-mono}
+use Rattle.release.specs.Laws.{Looser, open-open, dike-dike, building-building, shed-shed, area-mono, gas-mono, pool-mono}
 use Rattle.scenario.specs.declared.State.{State}
 use Rattle.scenario.specs.declared.State.the-variants.{Gas, Pressurized, Refrigerated, Liquid, Solution}
 use Rattle.scenario.specs.declared.ToxicCard.{ToxicCard}
@@ -44,6 +44,7 @@ same-kind : {c e : Containment} → Looser c e → isBuilding c ≡ isBuilding e
 same-kind open-open = refl
 same-kind (dike-dike d e a w) = refl
 same-kind (building-building b e f) = refl
+same-kind (shed-shed s e f) = refl
 
 planned-is : {s t : Scenario} → _≡_ {A = Planned} (planned.Planned s) (planned.Planned t) → s ≡ t
 planned-is e = cc
@@ -55,6 +56,7 @@ undiked-is : (c : Containment) {s t : Scenario} → undiked c s ≡ planned.Plan
 undiked-is Open e = planned-is e
 undiked-is (Dike d) e = absurd (not-planned e)
 undiked-is (Building b) e = planned-is e
+undiked-is (ShedWithDoors d) e = planned-is e
 
 pooled-is : (b : Bool) {p v t : Scenario} → pooled b p v ≡ planned.Planned t → (p ≡ t) ⊎ (v ≡ t)
 pooled-is true e = inl (planned-is e)

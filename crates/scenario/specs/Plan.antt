@@ -15,7 +15,7 @@ use Rattle.exhibits.specs.declared.Solution as solutions
 use Rattle.dispersion.specs.declared.Ground.{Ground}
 use Rattle.dispersion.specs.declared.Ground.the-variants.{Rural, Urban}
 use Rattle.release.specs.declared.Containment.{Containment}
-use Rattle.release.specs.declared.Containment.the-variants.{Open, Dike, Building}
+use Rattle.release.specs.declared.Containment.the-variants.{Open, Dike, Building, ShedWithDoors}
 use Rattle.release.specs.Pool.{poolArea, gasRate, poolRate, atMostTenMinutes, beyondDike, isBuilding}
 use Rattle.scenario.specs.declared.State.{State}
 use Rattle.scenario.specs.declared.State.the-variants.{Gas, Pressurized, Refrigerated, Liquid, Solution}
@@ -106,6 +106,7 @@ abbrev pub undiked : Containment → Scenario → Planned
 undiked Open s = planned.Planned s
 undiked (Dike d) s = planned.Mismatch
 undiked (Building b) s = planned.Planned s
+undiked (ShedWithDoors d) s = planned.Planned s
 
 -- "state 3 unless diked with a full area above the diked area": the pool that stays in or runs over the dike, or the vapor
 abbrev pub pooled : Bool → Scenario → Scenario → Planned

@@ -189,6 +189,7 @@ fn freed(card: ToxicCard, gas: Gas) -> Planned
         Containment::Open => Planned::Planned(scenario),
         Containment::Dike(_) => Planned::Mismatch,
         Containment::Building(_) => Planned::Planned(scenario),
+        Containment::ShedWithDoors(_) => Planned::Planned(scenario),
     }
 }
 

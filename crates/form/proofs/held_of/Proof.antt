@@ -1,4 +1,4 @@
-use Rattle.form.proofs.Ends.{held-dike, held-wall, held-building, held-open, held-none}
+use Rattle.form.proofs.Ends.{held-dike, held-wall, held-building, held-open, held-shed, held-none}
 use borrow.Author.Needs.{needs}
 use Rattle.form.proofs.held_of.Statement.{statement}
 use Rattle.form.proofs.held_of.Tie as tie
@@ -22,7 +22,10 @@ returns-4 : tie.Need-returns-4
 returns-4 c = search (held-open, needs)
 
 returns-5 : tie.Need-returns-5
-returns-5 c = search (held-none, needs)
+returns-5 c = search (held-shed, needs)
+
+returns-6 : tie.Need-returns-6
+returns-6 c = search (held-none, needs)
 
 pub held-of-spec : {M : Type 1} → statement M
 held-of-spec =
@@ -34,4 +37,5 @@ held-of-spec =
     returns-3
     open-of-requires
     returns-4
-    returns-5)
+    returns-5
+    returns-6)

@@ -14,6 +14,9 @@ full-area-requires c κs = search needs
 enum-told-2 : tie.Need-enum-told-2
 enum-told-2 c = search needs
 
+enum-told-3 : tie.Need-enum-told-3
+enum-told-3 c = search needs
+
 returns : tie.Need-returns
 returns c = search needs
 
@@ -23,6 +26,9 @@ returns-2 c = simp (c .full-area .ensures, c .before .before .containment .given
 returns-3 : tie.Need-returns-3
 returns-3 c = search needs
 
+returns-4 : tie.Need-returns-4
+returns-4 c = search needs
+
 pub beyond-dike-spec : {M : Type 1} → statement M
 beyond-dike-spec =
     tie.close
@@ -31,6 +37,8 @@ beyond-dike-spec =
     enum-known-containment
     full-area-requires
     enum-told-2
+    enum-told-3
     returns
     returns-2
-    returns-3)
+    returns-3
+    returns-4)

@@ -23,6 +23,15 @@ full-area-requires-2 c κs = search needs
 smaller-requires : tie.Need-smaller-requires
 smaller-requires c κs = search needs
 
+enum-known-containment-3 : tie.Need-enum-known-containment-3
+enum-known-containment-3 c = search needs
+
+full-area-requires-3 : tie.Need-full-area-requires-3
+full-area-requires-3 c κs = search needs
+
+smaller-requires-2 : tie.Need-smaller-requires-2
+smaller-requires-2 c κs = search needs
+
 returns : tie.Need-returns
 returns c = cc
 
@@ -31,6 +40,9 @@ returns-2 c = simp (c .diked-area .ensures, c .before .before .containment .give
 
 returns-3 : tie.Need-returns-3
 returns-3 c = cc
+
+returns-4 : tie.Need-returns-4
+returns-4 c = cc
 
 pub pool-area-spec : {M : Type 1} → statement M
 pool-area-spec =
@@ -43,6 +55,10 @@ pool-area-spec =
     enum-known-containment-2
     full-area-requires-2
     smaller-requires
+    enum-known-containment-3
+    full-area-requires-3
+    smaller-requires-2
     returns
     returns-2
-    returns-3)
+    returns-3
+    returns-4)
