@@ -30,6 +30,13 @@ extern "C" {
  */
 
 /*
+ * The containment of a toxic card, its byte 3: 0 open, 1 dike, 2 building, 3 shed with doors, which is a building without
+ * the factor. Bytes 12 to 15 are in 1 the diked area, in 2 and 3 the floor, both in square feet, and in 0 zero; bytes 16
+ * and 17 are in 1 the wall, in hundredths of a foot, in the others zero. A pool covers no more than the floor of 2 or 3.
+ * From 2 a gas leaves at 0.55 of its rate in the open and a pool's vapor at a tenth; from 3 nothing lowers the rate.
+ */
+
+/*
  * Why a register or a text is sent back. 1 to 4 and 13 mean no card, and their place is 0; the place of 12 is the
  * line's number, counted from 1. A card is checked in the order 5, 6, 7, 8, 9, 14, 15 (or 16 in state 5), 10, 11.
  */

@@ -15,6 +15,11 @@ pub const MAX_WALL: u16 = 10_000;
 /// The state of a solution.
 pub const SOLUTION: u8 = 5;
 
+/// The containment of a building, whose factors lower a rate.
+pub const BUILDING: u8 = 2;
+/// The containment of a shed with doors, a building without the factor.
+pub const SHED_WITH_DOORS: u8 = 3;
+
 /// Ammonia, chlorine and sulfur dioxide.
 const WITH_OWN_TABLE: [u32; 3] = [7_664_417, 7_782_505, 7_446_095];
 
@@ -79,7 +84,7 @@ pub struct Card {
     pub state: u8,
     /// 1 rural, 2 urban.
     pub ground: u8,
-    /// 0 open, 1 dike, 2 building.
+    /// 0 open, 1 dike, 2 building, 3 shed with doors.
     pub containment: u8,
     /// CAS number without hyphens.
     pub cas: u32,
@@ -163,6 +168,18 @@ pub fn cards_with_solutions(rng: &mut Rng, count: usize) -> Vec<Card> {
     cards
 }
 
+/// Cards as [`sound_cards`] makes them, held in every way, over half of them in sheds with doors and one of them at least.
+pub fn cards_with_sheds(rng: &mut Rng, count: usize) -> Vec<Card> {
+    let mut cards = sound_cards(rng, count);
+    let certain = rng.below(count as u64) as usize;
+    for (place, card) in cards.iter_mut().enumerate() {
+        if place == certain || rng.one_in(2) {
+            *card = shed_card(rng, card.number);
+        }
+    }
+    cards
+}
+
 /// From a card's number to the next card's: mostly 1, sometimes far.
 fn step(rng: &mut Rng) -> u32 {
     if rng.one_in(8) {
@@ -193,6 +210,16 @@ fn sound_card(rng: &mut Rng, number: u32) -> Card {
     }
 }
 
+/// A sound card in a shed with doors, which about one in five is.
+fn shed_card(rng: &mut Rng, number: u32) -> Card {
+    loop {
+        let card = sound_card(rng, number);
+        if card.containment == SHED_WITH_DOORS {
+            return card;
+        }
+    }
+}
+
 /// Any toxic substance, the few that are not read from a dense table more often than the rest.
 fn toxic_substance(rng: &mut Rng) -> &'static Toxic {
     let toxics = printed().toxics();
@@ -212,18 +239,19 @@ fn gas_card(rng: &mut Rng, frame: Card, toxic: &Toxic, lfb: u64) -> Card {
         return pool_card(rng, Card { containment: 1, ..frame }, toxic, lfb * 100);
     }
     let rate = edge_rate(rng, toxic);
-    if rng.one_in(3) {
-        let pounds = rng.near(rate / 55, MAX_POUNDS);
-        let area = rng.any_size(MAX_AREA);
-        return Card { containment: 2, pounds, area, ..frame };
-    }
-    let pounds = if rng.one_in(6) { rng.any_size(MAX_POUNDS) } else { rng.near(rate / 100, MAX_POUNDS) };
-    Card { pounds, ..frame }
+    let containment = *rng.pick(&[0, 0, BUILDING, SHED_WITH_DOORS]);
+    let thousandths_a_pound = if containment == BUILDING { 55 } else { 100 };
+    let pounds = match rng.below(6) {
+        0 => rng.any_size(MAX_POUNDS),
+        _ => rng.near(rate / thousandths_a_pound, MAX_POUNDS),
+    };
+    let area = if containment == 0 { 0 } else { rng.any_size(MAX_AREA) };
+    Card { containment, pounds, area, ..frame }
 }
 
 fn liquid_card(rng: &mut Rng, frame: Card, toxic: &Toxic, factors: &LiquidFactors) -> Card {
     let tenths = edge_temperature(rng);
-    let containment = rng.below(3) as u8;
+    let containment = rng.below(4) as u8;
     let frame = Card { state: 4, containment, tenths: i32::from(tenths), ..frame };
     pool_card(rng, frame, toxic, liquid_times_temperature(factors, tenths))
 }
@@ -248,7 +276,7 @@ fn solution_card(rng: &mut Rng, number: u32) -> Card {
         kind: 1,
         state: SOLUTION,
         ground: rng.between(1, 2) as u8,
-        containment: rng.below(3) as u8,
+        containment: rng.below(4) as u8,
         cas: solute.cas,
         tenths: i32::from(tenths),
         number,
@@ -261,7 +289,7 @@ fn solution_card(rng: &mut Rng, number: u32) -> Card {
 /// on or near an edge of its own.
 fn pool_card(rng: &mut Rng, frame: Card, toxic: &Toxic, factors: u64) -> Card {
     let rate = edge_rate(rng, toxic);
-    let shelter = if frame.containment == 2 { 10 } else { 1 };
+    let shelter = if frame.containment == BUILDING { 10 } else { 1 };
     // The area that evaporates at the rate, in hundredths of a square foot.
     let wanted = rate * 50_000_000 * shelter / (7 * factors);
     let (pounds, area) = pounds_and_area(rng, rate, wanted, toxic);

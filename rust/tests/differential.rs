@@ -2,17 +2,20 @@
 //!
 //! Every byte of the lent buffer, of the bytes around it and of the two farthest words is compared, on acceptance and
 //! on refusal. Then each register is written as comma lines, with the same care, and the lines of an accepted one are
-//! read back. The leaders after the first cards are compared in `prefixes`, on other registers made in the same ways.
+//! read back. The leaders after the first cards are compared in `prefixes`, on other registers made in the same ways, and
+//! sheds with doors beside buildings in `sheds`.
 //! Run with `cargo test --release --test differential -- --nocapture` to see the counts.
 
 mod lent;
 mod prefixes;
+mod sheds;
 
 use lent::{hex, Lent, READ_LINES, WRITE_LINES};
 use rings_second::proved;
 use rings_second::reference::printed::{printed, Factor, Phase, Solute, Toxic};
 use rings_second::reference::{self, Farthest, Refused, ANSWER_LEN, CARD_LEN, HEADER_LEN, MAX_CARDS, MAX_STRICT_LINE};
-use rings_second::samples::{self, highest_concentration, Card, Rng, MAX_AREA, MAX_POUNDS, MAX_WALL, SOLUTION};
+use rings_second::samples::{self, highest_concentration, Card, Rng};
+use rings_second::samples::{BUILDING, MAX_AREA, MAX_POUNDS, MAX_WALL, SHED_WITH_DOORS, SOLUTION};
 use std::collections::BTreeMap;
 
 const SEED: u64 = 0x0155_0b99_0009;
@@ -74,6 +77,8 @@ struct Comparison {
     refused: Refusals,
     routes: [usize; 4],
     tables: [usize; 14],
+    /// Accepted toxic cards by containment.
+    held: [usize; 4],
     solutions: Solutions,
     lines: Lines,
 }
@@ -87,13 +92,15 @@ impl Comparison {
             refused: Refusals::default(),
             routes: [0; 4],
             tables: [0; 14],
+            held: [0; 4],
             solutions: Solutions::default(),
             lines: Lines::default(),
         }
     }
 
-    /// Calls both with a buffer of a length, filled with the same random bytes, and panics where they differ.
-    fn compare(&mut self, register: &[u8], buffer_len: usize) {
+    /// Calls both with a buffer of a length, filled with the same random bytes, and panics where they differ. Gives the
+    /// refusal, if both refused.
+    fn compare(&mut self, register: &[u8], buffer_len: usize) -> Option<Refused> {
         self.answers.fill(&mut self.rng, buffer_len);
         let untouched = (self.rng.bits(), self.rng.bits());
 
@@ -113,21 +120,23 @@ impl Comparison {
                 self.answers.difference(),
             );
         }
-        self.count(ours.err(), register.len());
+        self.count(ours.err(), register);
         self.solutions.count(ours.err(), register);
         let written = self.lines.compare(&mut self.rng, register);
         assert!(written || ours.is_err(), "an accepted register was not written: {}", hex(register));
+        ours.err()
     }
 
-    fn count(&mut self, refused: Option<Refused>, register_len: usize) {
+    fn count(&mut self, refused: Option<Refused>, register: &[u8]) {
         match refused {
             Some(Refused { number, .. }) => self.refused[usize::from(number)] += 1,
             None => {
                 self.accepted += 1;
-                let cards = (register_len - HEADER_LEN) / CARD_LEN;
-                for answer in self.answers.ours().chunks_exact(ANSWER_LEN).take(cards) {
+                let cards = register[HEADER_LEN..].chunks_exact(CARD_LEN);
+                for (card, answer) in cards.zip(self.answers.ours().chunks_exact(ANSWER_LEN)) {
                     self.routes[usize::from(answer[4])] += 1;
                     self.tables[usize::from(answer[5])] += 1;
+                    self.held[usize::from(card[3])] += usize::from(card[0] == 1);
                 }
             }
         }
@@ -143,9 +152,12 @@ impl Comparison {
         for (table, met) in self.tables.iter().enumerate().skip(1) {
             println!("answered from Table {table:2}: {met} cards");
         }
+        for (containment, met) in self.held.iter().enumerate() {
+            println!("answered in containment {containment}: {met} toxic cards");
+        }
         assert!(registers >= RANDOM_REGISTERS);
         assert!(self.accepted * 4 >= registers, "too few registers were accepted");
-        for met in self.routes[1..].iter().chain(&self.tables[1..]) {
+        for met in self.routes[1..].iter().chain(&self.tables[1..]).chain(&self.held) {
             assert!(*met >= LEAST_OF_EACH, "a case was met too seldom");
         }
         self.solutions.report();
@@ -207,7 +219,7 @@ impl Solutions {
         assert!(self.registers >= LEAST_WITH_SOLUTIONS, "too few registers had solutions");
         assert!(self.accepted * 4 >= self.registers, "too few registers with solutions were accepted");
         let printed_rows: usize = printed().solutes().iter().map(|solute| solute.rows().count()).sum();
-        assert_eq!((self.rows.len(), self.held.len()), (printed_rows, 2 * 3), "each row, each way to hold one");
+        assert_eq!((self.rows.len(), self.held.len()), (printed_rows, 2 * 4), "each row, each way to hold one");
         for met in self.rows.values().chain(self.held.values()).chain([&self.refused[7], &self.refused[16]]) {
             assert!(*met >= LEAST_OF_EACH, "a case of solutions was met too seldom");
         }
@@ -284,7 +296,7 @@ impl Lines {
 }
 
 /// Prints how often each refusal was met: often enough, or never where the call does not give it.
-fn report_refusals(what: &str, refused: &Refusals, never: [usize; 2]) {
+fn report_refusals<const N: usize>(what: &str, refused: &Refusals, never: [usize; N]) {
     for (number, &met) in refused.iter().enumerate().skip(1) {
         println!("{what} {number:2}: {met}");
         let given = !never.contains(&number);
@@ -307,7 +319,7 @@ fn words(result: Result<reference::Accepted, Refused>, untouched: (u64, u64)) ->
 fn sweep_toxics(comparison: &mut Comparison) {
     const POUNDS: [u32; 8] = [1, 10, 155, 2_249, 20_000, 420_000, 2_000_010, MAX_POUNDS];
     for toxic in printed().toxics() {
-        for code in 0..4 * 2 * 3 * POUNDS.len() {
+        for code in 0..4 * 2 * 4 * POUNDS.len() {
             let (pounds, code) = (POUNDS[code % POUNDS.len()], code / POUNDS.len());
             let card = Card {
                 kind: 1,
@@ -359,7 +371,7 @@ fn sweep_ranges(comparison: &mut Comparison) {
     const AREAS: [u32; 4] = [0, 1, MAX_AREA, MAX_AREA + 1];
     const WALLS: [u16; 4] = [0, MAX_WALL, MAX_WALL + 1, u16::MAX];
     const TENTHS: [i32; 6] = [-32_768, -501, -500, 0, 3_000, 3_001];
-    for code in 0..2 * 2 * 4 * 3 * 4 * 4 * 6 {
+    for code in 0..2 * 2 * 4 * 4 * 4 * 4 * 6 {
         let mut code = code;
         let mut next = |choices: usize| {
             let choice = code % choices;
@@ -370,7 +382,7 @@ fn sweep_ranges(comparison: &mut Comparison) {
             kind: 1,
             state: 1 + next(4) as u8,
             ground: 1,
-            containment: next(3) as u8,
+            containment: next(4) as u8,
             cas: SUBSTANCES[next(2)],
             pounds: next(2) as u32,
             area: AREAS[next(4)],
@@ -439,7 +451,8 @@ fn highest_row(solute: &Solute) -> (u16, &Toxic) {
     solute.rows().last().expect("a printed concentration")
 }
 
-/// A card on both grounds and held in every way: in the open, in dikes with walls of all heights, in buildings.
+/// A card on both grounds and held in every way: in the open, in dikes with walls of all heights, in buildings and in sheds
+/// with doors.
 fn sweep_holding(comparison: &mut Comparison, card: Card, row: &Toxic) {
     let full = u64::from(card.pounds) * row.density_factor / 100;
     let small = (full / 5).clamp(1, u64::from(MAX_AREA)) as u32;
@@ -454,7 +467,8 @@ fn sweep_holding(comparison: &mut Comparison, card: Card, row: &Toxic) {
         }
         compare(Card { containment: 1, area: small, wall: MAX_WALL + 1, ..card });
         for area in [0, 1, small, MAX_AREA, MAX_AREA + 1] {
-            compare(Card { containment: 2, area, ..card });
+            compare(Card { containment: BUILDING, area, ..card });
+            compare(Card { containment: SHED_WITH_DOORS, area, ..card });
         }
     }
 }
@@ -469,6 +483,12 @@ fn random_case(rng: &mut Rng) -> (Vec<u8>, usize) {
 fn random_case_of_solutions(rng: &mut Rng) -> (Vec<u8>, usize) {
     let count = rng.between(1, 6) as usize;
     let cards = samples::cards_with_solutions(rng, count);
+    case_of(rng, cards)
+}
+
+fn random_case_of_sheds(rng: &mut Rng) -> (Vec<u8>, usize) {
+    let count = rng.between(1, 6) as usize;
+    let cards = samples::cards_with_sheds(rng, count);
     case_of(rng, cards)
 }
 
@@ -626,11 +646,14 @@ fn beyond_the_table(rng: &mut Rng, card: Card) -> Card {
     }
     // Just above the last rows: 750,000 pounds a minute of ammonia, 200,000 of other dense gases.
     let pounds = *rng.pick(&[2_000_000, 2_000_010, 3_636_364, 7_500_000, 7_500_001, MAX_POUNDS]);
+    // In the open, or in the largest shed with doors, which lowers no rate of a gas and few of a pool.
+    let (containment, area) = *rng.pick(&[(0, 0), (0, 0), (SHED_WITH_DOORS, MAX_AREA)]);
+    let card = Card { pounds, containment, area, wall: 0, ..card };
     let ammonia = rng.one_in(4);
     if ammonia {
-        return Card { pounds, cas: 7_664_417, state: 3, containment: 0, area: 0, wall: 0, tenths: 0, ..card };
+        return Card { cas: 7_664_417, state: 3, tenths: 0, ..card };
     }
-    Card { pounds, containment: 0, area: 0, wall: 0, ..card }
+    card
 }
 
 /// Bytes changed, lost or added, sometimes with a length field that fits again.
@@ -654,7 +677,7 @@ fn damage(rng: &mut Rng, register: &mut Vec<u8>) {
             for _ in 0..=rng.below(3) {
                 let place = rng.below(register.len() as u64) as usize;
                 let flipped = register[place] ^ (1 << rng.below(8));
-                register[place] = *rng.pick(&[0, 1, 2, 255, flipped, flipped]);
+                register[place] = *rng.pick(&[0, 1, 2, 3, 255, flipped, flipped]);
             }
         }
     }

@@ -10,8 +10,10 @@ mod lent;
 use breakers::{lengthen, Breaker, Filler, BREAKERS};
 use lent::{Lent, READ_LINES, WRITE_LINES};
 use rings_second::reference::{Refused, CARD_LEN, HEADER_LEN, MAX_CARDS, MAX_LEN, MAX_LINE};
-use rings_second::samples::lines::{any_card, decorated_text, strict_text, text, Line, CAS, REMARK, STATE, TENTHS};
-use rings_second::samples::{accepted_cards, cards_with_solutions, register, sound_cards, Card, Rng, SOLUTION};
+use rings_second::samples::lines::{any_card, decorated_text, strict_text, text, Line};
+use rings_second::samples::lines::{CAS, CONTAINMENT, REMARK, STATE, TENTHS};
+use rings_second::samples::{accepted_cards, cards_with_sheds, cards_with_solutions, register, sound_cards};
+use rings_second::samples::{Card, Rng, SHED_WITH_DOORS, SOLUTION};
 use rings_second::{proved, reference};
 use std::cmp::Ordering;
 use std::collections::BTreeMap;
@@ -26,6 +28,8 @@ const PIECED: usize = 80_000;
 const RANDOM: usize = 20_000;
 /// Texts of each state and each ninth field that tells the states apart.
 const OF_EACH_TENTHS: usize = 20;
+/// Texts of each kind and each fourth field.
+const OF_EACH_CONTAINMENT: usize = 100;
 /// Rounds through all numbers of lines, places of a bad one, and rooms.
 const ROUNDS_OF_COUNTS: usize = 4;
 
@@ -42,6 +46,7 @@ fn both_read_the_same() {
     lengths_of_lines(&mut comparison);
     numbers_of_lines(&mut comparison);
     tenths_by_state(&mut comparison);
+    containments(&mut comparison);
     every_byte_everywhere(&mut comparison);
     damaged_texts(&mut comparison);
     pieced_texts(&mut comparison);
@@ -193,6 +198,8 @@ struct Comparison {
     counts: BTreeMap<usize, Tally>,
     /// Texts whose ninth field is looked at, with the line in state 5 and with it in another.
     states: BTreeMap<&'static str, Tally>,
+    /// Texts whose fourth field is looked at, with a shed with doors in it, another number or none.
+    containments: BTreeMap<&'static str, Tally>,
     /// Texts with and without the last line feed.
     fed: Tally,
     unfed: Tally,
@@ -244,6 +251,7 @@ impl Comparison {
         print_tallies("with a line of so many bytes:", &self.lengths);
         print_tallies("so many lines:", &self.counts);
         print_tallies("a ninth field in", &self.states);
+        print_tallies("a fourth field of", &self.containments);
         print_tallies("made as", &self.sorts);
         let seldom = self.broken.values().min().expect("a rule");
         let rules: Vec<_> = self.broken.keys().copied().collect();
@@ -258,8 +266,9 @@ impl Comparison {
         let by_count = [MAX_CARDS - 1, MAX_CARDS, MAX_CARDS + 1].map(|count| &self.counts[&count]);
         assert_eq!(self.rooms.len(), 5);
         assert_eq!(self.broken.len(), BREAKERS.len() + 1, "each rule has a name of its own");
-        let states = [&self.states["state 5"], &self.states["another state"]];
-        for tally in by_length.into_iter().chain(self.rooms.values()).chain(states).chain([&self.fed, &self.unfed]) {
+        assert_eq!((self.states.len(), self.containments.len()), (2, 3));
+        let fields = self.states.values().chain(self.containments.values());
+        for tally in by_length.into_iter().chain(self.rooms.values()).chain(fields).chain([&self.fed, &self.unfed]) {
             assert!(tally.texts() >= LEAST_OF_EACH, "a case was met too seldom");
         }
         for tally in by_count {
@@ -285,6 +294,7 @@ fn sound_lines(rng: &mut Rng) -> (Vec<Card>, Vec<Line>) {
     let count = rng.below(7) as usize;
     let cards = match rng.below(4) {
         0 if count > 0 && rng.one_in(3) => cards_with_solutions(rng, count),
+        0 if count > 0 && rng.one_in(2) => cards_with_sheds(rng, count),
         0 => sound_cards(rng, count),
         _ => (0..count).map(|_| any_card(rng)).collect(),
     };
@@ -449,14 +459,22 @@ fn tenths_by_state(comparison: &mut Comparison) {
                 let mut line = some_line(&mut comparison.rng, &card);
                 line.fields[STATE] = state.into();
                 line.fields[TENTHS] = tenths.into();
-                compare_among_others(comparison, card, line, value.is_some());
+                let outcome = compare_among_others(comparison, "lines by state", card, line, value.is_some());
+                let state = if code == SOLUTION { "state 5" } else { "another state" };
+                comparison.states.entry(state).or_default().count(outcome);
             }
         }
     }
 }
 
 /// A card's line, well formed or not, anywhere among sound ones.
-fn compare_among_others(comparison: &mut Comparison, card: Card, line: Line, well_formed: bool) {
+fn compare_among_others(
+    comparison: &mut Comparison,
+    sort: &'static str,
+    card: Card,
+    line: Line,
+    well_formed: bool,
+) -> Outcome {
     let rng = &mut comparison.rng;
     let (mut cards, mut lines) = sound_lines(rng);
     let place = rng.below(lines.len() as u64 + 1) as usize;
@@ -464,9 +482,50 @@ fn compare_among_others(comparison: &mut Comparison, card: Card, line: Line, wel
     lines.insert(place, line);
     let last_feed = rng.one_in(2);
     let made = if well_formed { Made::Of(&cards) } else { Made::BadAt(place + 1) };
-    let outcome = comparison.compare("lines by state", &text(&lines, last_feed), made);
-    let state = if card.state == SOLUTION { "state 5" } else { "another state" };
-    comparison.states.entry(state).or_default().count(outcome);
+    comparison.compare(sort, &text(&lines, last_feed), made)
+}
+
+// The fourth field, which takes what a byte can hold, whether or not it is listed.
+
+/// A fourth field with its value, where it is well formed. 259 would be 3 in a byte.
+const TELLING_CONTAINMENTS: [(&str, Option<u8>); 17] = [
+    ("3", Some(3)),
+    ("03", Some(3)),
+    (" 3 ", Some(3)),
+    ("0000003", Some(3)),
+    ("0", Some(0)),
+    ("1", Some(1)),
+    ("2", Some(2)),
+    ("4", Some(4)),
+    ("33", Some(33)),
+    ("255", Some(255)),
+    ("256", None),
+    ("259", None),
+    ("-3", None),
+    ("+3", None),
+    ("3.0", None),
+    ("0 3", None),
+    ("", None),
+];
+
+/// Each such field on lines of every kind.
+fn containments(comparison: &mut Comparison) {
+    for (field, value) in TELLING_CONTAINMENTS {
+        for kind in [1, 2, 255] {
+            for _ in 0..OF_EACH_CONTAINMENT {
+                let card = Card { kind, containment: value.unwrap_or(0), ..any_card(&mut comparison.rng) };
+                let mut line = some_line(&mut comparison.rng, &card);
+                line.fields[CONTAINMENT] = field.into();
+                let outcome = compare_among_others(comparison, "lines by containment", card, line, value.is_some());
+                let containment = match value {
+                    Some(SHED_WITH_DOORS) => "3",
+                    Some(_) => "another number",
+                    None => "no number",
+                };
+                comparison.containments.entry(containment).or_default().count(outcome);
+            }
+        }
+    }
 }
 
 // Texts of which nothing is known beforehand.

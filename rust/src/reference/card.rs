@@ -50,11 +50,14 @@ pub enum Ground {
     Urban,
 }
 
+/// What stands around a vessel. A pool stays on the floor of a building or a shed with doors, but only the building, a
+/// closed space next to the outside air, keeps some of the vapor in.
 #[derive(Debug, Clone, Copy, PartialEq, Eq)]
 pub enum Containment {
     Open,
     Dike(Dike),
     Building { floor: SquareFeet },
+    ShedWithDoors { floor: SquareFeet },
 }
 
 #[derive(Debug, Clone, Copy, PartialEq, Eq)]
@@ -236,6 +239,7 @@ fn form(fields: &Fields) -> Result<(State, Ground, Containment), Fault> {
         (0, 0, 0) => Containment::Open,
         (1, area, wall) => Containment::Dike(Dike { area: SquareFeet::from_whole(area), wall: Wall(u64::from(wall)) }),
         (2, floor, 0) => Containment::Building { floor: SquareFeet::from_whole(floor) },
+        (3, floor, 0) => Containment::ShedWithDoors { floor: SquareFeet::from_whole(floor) },
         _ => return Err(Fault::Form),
     };
     Ok((state, ground, containment))

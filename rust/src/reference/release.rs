@@ -90,7 +90,7 @@ impl ToxicCard<'_> {
         // Thousandths of pounds / 10, and of pounds / 10 × 0.55: both whole, so nothing is rounded.
         let thousandths_a_pound = match self.containment {
             Containment::Building { .. } => 55,
-            Containment::Open | Containment::Dike(_) => 100,
+            Containment::Open | Containment::Dike(_) | Containment::ShedWithDoors { .. } => 100,
         };
         Release {
             route: Route::Gas,
@@ -119,7 +119,7 @@ impl ToxicCard<'_> {
         let full = self.full_area();
         match self.containment {
             Containment::Open => full,
-            Containment::Building { floor } => full.min(floor),
+            Containment::Building { floor } | Containment::ShedWithDoors { floor } => full.min(floor),
             Containment::Dike(dike) if full <= dike.area => full,
             Containment::Dike(dike) => full.min(diked_area(full, dike)),
         }

@@ -1,5 +1,5 @@
-//! Document 01's listing, refusals and cards to try, the solutions and the leaders of document 02, and the guidance's own
-//! examples.
+//! Document 01's listing, refusals and cards to try, the solutions, the leaders and the sheds with doors of document 02,
+//! and the guidance's own examples.
 
 use super::{answer, leaders_after, listing, Accepted, Farthest, Refused, ANSWER_LEN, CARD_LEN, MAX_CARDS, MAX_LEN};
 use crate::samples::{accepted_register, register, Card, Rng};
@@ -7,6 +7,8 @@ use crate::samples::{accepted_register, register, Card, Rng};
 const AMMONIA: u32 = 7_664_417;
 const BROMINE: u32 = 7_726_956;
 const CHLORINE: u32 = 7_782_505;
+const DIBORANE: u32 = 19_287_457;
+const FURAN: u32 = 110_009;
 const HYDROCHLORIC_ACID: u32 = 7_647_010;
 const NITRIC_ACID: u32 = 7_697_372;
 const OLEUM: u32 = 8_014_957;
@@ -32,6 +34,10 @@ fn diked(card: Card, area: u32, wall: u16) -> Card {
 
 fn in_building(card: Card, area: u32) -> Card {
     Card { containment: 2, area, ..card }
+}
+
+fn in_shed_with_doors(card: Card, area: u32) -> Card {
+    Card { containment: 3, area, ..card }
 }
 
 fn at(card: Card, tenths: i32) -> Card {
@@ -335,7 +341,6 @@ fn temperatures_read_the_closest_column() {
     assert_eq!(line(at(dike, 500)), "2 8 25.550 3.40");
     assert_eq!(line(at(dike, 501)), "2 8 32.200 3.40");
     // Furan has LFB printed at 35 °C, acrylyl chloride no data from 30 °C on.
-    const FURAN: u32 = 110_009;
     const ACRYLYL_CHLORIDE: u32 = 814_686;
     assert_eq!(line(at(toxic(FURAN, 4, RURAL, 1_000), 325)), "2 5 101.920 12.00");
     assert_eq!(refusal_of(at(toxic(ACRYLYL_CHLORIDE, 4, RURAL, 1_000), 274)), None);
@@ -402,11 +407,156 @@ fn a_solution_is_contained_like_a_liquid_and_read_for_ten_minutes() {
     assert_eq!(line(solution(OLEUM, 300, 10_000)), "2 1 2.800 0.60");
 }
 
+/// A card of each state, in the open.
+fn one_of_each_state() -> [Card; 5] {
+    let gas = toxic(DIBORANE, 1, URBAN, 2_500);
+    let refrigerated = toxic(CHLORINE, 3, RURAL, 1_000);
+    [gas, chlorine(RURAL, 1_000), refrigerated, bromine(), solution(HYDROCHLORIC_ACID, 370, 5_000)]
+}
+
+#[test]
+fn a_gas_leaves_a_shed_with_doors_at_a_tenth_of_its_pounds_a_minute() {
+    // 0.55 of it in a building. A floor plays no part.
+    for floor in [1, 100, 1_000_000] {
+        assert_eq!(line(in_building(chlorine(RURAL, 1_000), floor)), "1 11 55.000 1.70");
+        assert_eq!(line(in_shed_with_doors(chlorine(RURAL, 1_000), floor)), "1 11 100.000 2.20");
+        assert_eq!(line(in_shed_with_doors(chlorine(URBAN, 1_000), floor)), "1 11 100.000 0.90");
+    }
+    // 137.5 / 0.0011 is 125,000, and 250 / 0.0011 is 227,272.7.
+    let diborane = toxic(DIBORANE, 1, URBAN, 2_500);
+    assert_eq!(line(in_building(diborane, 1_000)), "1 3 137.500 5.80");
+    assert_eq!(line(in_shed_with_doors(diborane, 1_000)), "1 3 250.000 8.10");
+    // 550 is halfway between two rows of Tables 9 and 10.
+    let ammonia = |state| toxic(AMMONIA, state, RURAL, 10_000);
+    assert_eq!(line(in_building(ammonia(1), 1)), "1 10 550.000 1.30");
+    assert_eq!(line(in_shed_with_doors(ammonia(1), 1)), "1 10 1000.000 1.60");
+    assert_eq!(line(in_building(ammonia(2), 1)), "1 9 550.000 1.40");
+    assert_eq!(line(in_shed_with_doors(ammonia(2), 1)), "1 9 1000.000 1.80");
+}
+
+#[test]
+fn a_refrigerated_gas_leaves_a_shed_with_doors_as_a_gas() {
+    // Its pool would have 310 square feet, but a floor is no dike, however small.
+    let refrigerated = toxic(CHLORINE, 3, RURAL, 1_000);
+    assert_eq!(line(diked(refrigerated, 309, 100)), "2 11 82.194 1.90");
+    for floor in [1, 309, 310, 311, 1_000_000] {
+        assert_eq!(line(in_building(refrigerated, floor)), "1 11 55.000 1.70");
+        assert_eq!(line(in_shed_with_doors(refrigerated, floor)), "1 11 100.000 2.20");
+    }
+}
+
+#[test]
+fn a_pool_in_a_shed_with_doors_is_as_large_as_in_a_building_and_gives_off_ten_times_as_much() {
+    // The full area is 3,200 square feet; 0.1022 pounds a minute come from each that is covered.
+    assert_eq!(line(in_building(bromine(), 100)), "2 8 1.022 0.40");
+    assert_eq!(line(in_shed_with_doors(bromine(), 100)), "2 8 10.220 1.80");
+    assert_eq!(line(in_building(bromine(), 3_199)), "2 8 32.694 3.40");
+    assert_eq!(line(in_shed_with_doors(bromine(), 3_199)), "2 8 326.938 11.00");
+    for floor in [3_200, 3_201, 1_000_000] {
+        assert_eq!(line(in_building(bromine(), floor)), "2 8 32.704 3.40");
+        assert_eq!(line(in_shed_with_doors(bromine(), floor)), "2 8 327.040 11.00");
+    }
+    // At 50.1 °C by LFB.
+    assert_eq!(line(at(in_building(bromine(), 100), 501)), "2 8 3.220 0.70");
+    assert_eq!(line(at(in_shed_with_doors(bromine(), 100), 501)), "2 8 32.200 3.40");
+}
+
+#[test]
+fn a_pool_is_gone_sooner_from_a_shed_with_doors() {
+    // Furan at 30 °C gives off 1.4 × 0.12 × 1.2 = 0.2016 pounds a minute from each of its 520 square feet. 497 of them
+    // are gone within ten minutes; 496 last a little longer, and so does whatever a building holds.
+    let furan = at(toxic(FURAN, 4, RURAL, 1_000), 300);
+    assert_eq!(line(in_building(furan, 520)), "2 6 10.484 8.10");
+    assert_eq!(line(in_shed_with_doors(furan, 496)), "2 6 99.994 25.00");
+    assert_eq!(line(in_shed_with_doors(furan, 497)), "2 5 100.196 12.00");
+    assert_eq!(line(in_shed_with_doors(furan, 520)), "2 5 104.832 12.00");
+}
+
+#[test]
+fn a_solution_in_a_shed_with_doors_is_read_for_ten_minutes() {
+    // The full area is 2,100 square feet; 0.0119 pounds a minute come from each that is covered.
+    let acid = solution(HYDROCHLORIC_ACID, 370, 5_000);
+    assert_eq!(line(in_building(acid, 400)), "2 5 0.476 0.20");
+    assert_eq!(line(in_shed_with_doors(acid, 400)), "2 5 4.760 0.50");
+    for floor in [2_100, 2_101, 3_000] {
+        assert_eq!(line(in_building(acid, floor)), "2 5 2.499 0.30");
+        assert_eq!(line(in_shed_with_doors(acid, floor)), "2 5 24.990 1.30");
+    }
+    let ammonia = solution(AMMONIA, 250, 100_000);
+    assert_eq!(line(in_building(ammonia, 2_000)), "2 10 7.280 0.10");
+    assert_eq!(line(in_shed_with_doors(ammonia, 2_000)), "2 10 72.800 0.50");
+}
+
+#[test]
+fn a_shed_with_doors_has_the_area_rules_of_a_building() {
+    for card in one_of_each_state() {
+        for held in [in_building, in_shed_with_doors] {
+            for floor in [1, 1_000_000] {
+                assert_eq!(refusal_of(held(card, floor)), None);
+            }
+            for floor in [0, 1_000_001, u32::MAX] {
+                assert_eq!(refusal_of(held(card, floor)), Some((9, 0)));
+            }
+            // Of whatever height, and before an area out of range.
+            for (floor, wall) in [(100, 1), (100, 10_000), (100, 10_001), (0, 1), (1_000_001, u16::MAX)] {
+                assert_eq!(refusal_of(Card { wall, ..held(card, floor) }), Some((6, 0)));
+            }
+        }
+    }
+}
+
+#[test]
+fn byte_3_goes_up_to_3_on_a_toxic_card_and_is_zero_on_a_flammable_one() {
+    for containment in 4..=u8::MAX {
+        for card in one_of_each_state() {
+            assert_eq!(refusal_of(Card { containment, ..card }), Some((6, 0)));
+            assert_eq!(refusal_of(Card { containment, area: 100, ..card }), Some((6, 0)));
+        }
+    }
+    for containment in 1..=u8::MAX {
+        assert_eq!(refusal_of(Card { containment, ..flammable(PROPANE, 1) }), Some((6, 0)));
+    }
+    assert_eq!(refusal_of(in_shed_with_doors(flammable(PROPANE, 1), 100)), Some((6, 0)));
+}
+
+#[test]
+fn a_shed_with_doors_suits_every_state_that_suits_its_substance() {
+    for state in 1..=2 {
+        assert_eq!(refusal_of(in_shed_with_doors(toxic(CHLORINE, state, RURAL, 1), 100)), None);
+        assert_eq!(refusal_of(diked(toxic(CHLORINE, state, RURAL, 1), 100, 0)), Some((10, 0)));
+    }
+    for state in 1..=3 {
+        assert_eq!(refusal_of(in_shed_with_doors(toxic(BROMINE, state, RURAL, 1), 100)), Some((10, 0)));
+    }
+    assert_eq!(refusal_of(in_shed_with_doors(toxic(CHLORINE, 4, RURAL, 1), 100)), Some((10, 0)));
+    // 750,001 pounds a minute are beyond Table 10, 412,500.55 are not.
+    let ammonia = toxic(AMMONIA, 3, URBAN, 7_500_010);
+    assert_eq!(line(in_building(ammonia, 100)), "1 10 412500.550 7.80");
+    assert_eq!(refusal_of(in_shed_with_doors(ammonia, 100)), Some((11, 0)));
+}
+
+#[test]
+fn the_checks_of_a_shed_with_doors_come_in_their_order() {
+    let card = Card { number: 0, wall: 10_001, cas: 1, pounds: 0, ..at(in_shed_with_doors(bromine(), 0), 3_001) };
+    assert_eq!(refusal_of(card), Some((5, 0)));
+    // No 14: a wall is 6, whatever its height. The last is a gas in state 4.
+    mended(
+        card,
+        &[
+            (6, |card| card.number = 1),
+            (7, |card| card.wall = 0),
+            (8, |card| card.cas = CHLORINE),
+            (9, |card| card.pounds = 1),
+            (15, |card| card.area = 1),
+            (10, |card| card.tenths = 250),
+        ],
+    );
+}
+
 /// The guidance rounds what it prints; these are the exact values of the same cards.
 #[test]
 fn the_examples_of_the_guidance() {
     const ACRYLONITRILE: u32 = 107_131;
-    const DIBORANE: u32 = 19_287_457;
     const ETHYLENE_OXIDE: u32 = 75_218;
     const ETHYLENE: u32 = 74_851;
     // Examples 1 and 13, 2: diborane.

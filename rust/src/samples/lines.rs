@@ -5,6 +5,8 @@ use crate::reference::MAX_LINE;
 
 /// The places of a line's fields.
 pub const STATE: usize = 1;
+/// A number of one byte like those before it: a line is not asked which of them are listed.
+pub const CONTAINMENT: usize = 3;
 /// The number with hyphens.
 pub const CAS: usize = 4;
 /// Tenths of a degree, the field that may have a minus, or in state 5 of a percent, which may have none.
@@ -95,15 +97,17 @@ pub fn decorated_text(rng: &mut Rng, cards: &[Card]) -> Vec<u8> {
     text(&lines, true)
 }
 
-/// A card of any numbers that its bytes can hold, whether or not it means anything. Many are in state 5, of any kind.
+/// A card of any numbers that its bytes can hold, whether or not it means anything. Many are in state 5, of any kind, and
+/// many in a listed containment or in 4, the first that is not.
 pub fn any_card(rng: &mut Rng) -> Card {
     let state = if rng.one_in(4) { SOLUTION } else { any_number(rng, u32::from(u8::MAX)) as u8 };
     let kind = if rng.one_in(4) { rng.between(1, 2) as u8 } else { any_number(rng, u32::from(u8::MAX)) as u8 };
+    let containment = if rng.one_in(4) { rng.below(5) as u8 } else { any_number(rng, u32::from(u8::MAX)) as u8 };
     Card {
         kind,
         state,
         ground: any_number(rng, u32::from(u8::MAX)) as u8,
-        containment: any_number(rng, u32::from(u8::MAX)) as u8,
+        containment,
         cas: any_number(rng, u32::MAX),
         pounds: any_number(rng, u32::MAX),
         area: any_number(rng, u32::MAX),

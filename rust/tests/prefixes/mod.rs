@@ -5,13 +5,14 @@
 //! are the farthest of a register of those cards alone, and any other register is sent back as that call sends it back.
 
 use crate::lent::hex;
-use crate::{random_case, random_case_of_solutions, spoil, words, LEAST_OF_EACH, SEED};
+use crate::{random_case, random_case_of_sheds, random_case_of_solutions, spoil, words, LEAST_OF_EACH, SEED};
 use rings_second::proved;
 use rings_second::reference::{self, Accepted, Farthest, Refused, ANSWER_LEN, CARD_LEN, HEADER_LEN, MAX_CARDS};
 use rings_second::samples::{self, Card, Rng};
 
 const REGISTERS: usize = 150_000;
 const REGISTERS_OF_SOLUTIONS: usize = 30_000;
+const REGISTERS_OF_SHEDS: usize = 30_000;
 const LONG_REGISTERS: usize = 400;
 /// A register of at most so many cards is asked after each of them.
 const SHORT: usize = 40;
@@ -30,6 +31,10 @@ fn the_leaders_after_any_number_of_cards_agree() {
     }
     for _ in 0..REGISTERS_OF_SOLUTIONS {
         let (register, _) = random_case_of_solutions(&mut rng);
+        prefixes.compare(&mut rng, &register);
+    }
+    for _ in 0..REGISTERS_OF_SHEDS {
+        let (register, _) = random_case_of_sheds(&mut rng);
         prefixes.compare(&mut rng, &register);
     }
     for _ in 0..LONG_REGISTERS {

@@ -1,4 +1,4 @@
-//! Request A1 of document 02, rule by rule, and what A3 adds to it.
+//! Request A1 of document 02, rule by rule, what A3 adds to it, and A5's containment on a line.
 
 use super::{read_lines, write_lines, MAX_LINE, MAX_STRICT_LINE};
 use crate::reference::{answer, Refused, ANSWER_LEN, CARD_LEN, HEADER_LEN, MAX_CARDS, MAX_LEN};
@@ -385,6 +385,19 @@ fn solutions_are_written_by_their_concentration() {
     assert_eq!(write(&register(&[acid])), Ok(b"1,5,2,1,7647-01-0,20000,100,400,370,12,\n".to_vec()));
     let too_strong = register(&[Card { tenths: 65_535, ..acid }]);
     assert_eq!(write_into(&too_strong, 0), refused(16, 0));
+}
+
+#[test]
+fn a_shed_with_doors_is_a_3_in_the_fourth_field() {
+    let shed = Card { containment: 3, wall: 0, ..bromine() };
+    let line = "1,4,2,3,7726-95-6,20000,100,0,250,12,\n";
+    assert_eq!(read(line), Ok(register(&[shed])));
+    assert_eq!(write(&register(&[shed])), Ok(line.into()));
+    assert_eq!(read(" 1,4,2, 003 ,7726-95-6,20000,100,0,250,12,by the doors"), Ok(register(&[shed])));
+    // A 4 is well formed too, and 6 where it has to mean something.
+    let unlisted = register(&[Card { containment: 4, ..shed }]);
+    assert_eq!(read("1,4,2,4,7726-95-6,20000,100,0,250,12,"), Ok(unlisted.clone()));
+    assert_eq!(write(&unlisted), refused(6, 0));
 }
 
 #[test]
