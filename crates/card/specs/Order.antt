@@ -17,7 +17,7 @@ use Rattle.dispersion.specs.Tables.{readingOf}
 use Rattle.dispersion.specs.Laws.{reading-mono}
 use Rattle.blast.specs.Blast.{blastReading}
 use Rattle.blast.specs.Laws.{blast-mono}
-use Rattle.scenario.specs.declared.State.{State}
+use Rattle.which_table.specs.declared.State.{State}
 use Rattle.scenario.specs.declared.ToxicCard.{ToxicCard}
 use Rattle.scenario.specs.declared.Scenario.{Scenario}
 use Rattle.scenario.specs.declared.Planned.{Planned}

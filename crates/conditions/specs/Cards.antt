@@ -16,7 +16,7 @@ use Rattle.exhibits.specs.declared.Toxic.{Toxic}
 use Rattle.exhibits.specs.Solutions.{badPercent}
 use Rattle.dispersion.specs.Tables.{readingOf}
 use Rattle.blast.specs.Blast.{isFlammable, blastReading}
-use Rattle.scenario.specs.declared.State.{State}
+use Rattle.which_table.specs.declared.State.{State}
 use Rattle.scenario.specs.declared.ToxicCard.{ToxicCard}
 use Rattle.scenario.specs.declared.Planned.{Planned}
 use Rattle.scenario.specs.declared.Planned.the-variants as planned

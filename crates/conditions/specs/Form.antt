@@ -13,8 +13,8 @@ use Rattle.search.specs.Rising.{both}
 use Rattle.search.specs.Places.{either, among}
 use Rattle.dispersion.specs.declared.Ground.the-variants.{Rural, Urban}
 use Rattle.release.specs.declared.Containment.the-variants.{Open, Building, ShedWithDoors}
-use Rattle.scenario.specs.declared.State.{State}
-use Rattle.scenario.specs.declared.State.the-variants.{Gas, Pressurized, Refrigerated, Liquid, Solution}
+use Rattle.which_table.specs.declared.State.{State}
+use Rattle.which_table.specs.declared.State.the-variants.{Gas, Pressurized, Refrigerated, Liquid, Solution}
 use Rattle.fields.specs.declared.Fields.{Fields}
 use Rattle.buffer.specs.Numbers.{byteAt, twoAt, fourAt}
 use Rattle.fields.specs.Layout.{fieldsOf}

@@ -29,7 +29,7 @@ use Rattle.rules.specs.Rules.{larger, closest}
 use Rattle.release.specs.declared.Containment.{Containment}
 use Rattle.release.specs.declared.Containment.the-variants.{Open, Dike, Building, ShedWithDoors}
 use Rattle.release.specs.Pool.{beyondDike}
-use Rattle.scenario.specs.declared.State.{State}
+use Rattle.which_table.specs.declared.State.{State}
 use Rattle.scenario.specs.declared.Tenths.{Tenths}
 use Rattle.scenario.specs.declared.Tenths.the-variants.{Temperature, Concentration}
 use Rattle.scenario.specs.declared.ToxicCard.{ToxicCard}

@@ -10,8 +10,8 @@ use Rattle.search.specs.Laws.{clash}
 use Rattle.dispersion.specs.declared.Ground.{Ground}
 use Rattle.dispersion.specs.declared.Ground.the-variants.{Rural, Urban}
 use Rattle.release.specs.declared.Containment.{Containment}
-use Rattle.scenario.specs.declared.State.{State}
-use Rattle.scenario.specs.declared.State.the-variants.{Gas, Pressurized, Refrigerated, Liquid, Solution}
+use Rattle.which_table.specs.declared.State.{State}
+use Rattle.which_table.specs.declared.State.the-variants.{Gas, Pressurized, Refrigerated, Liquid, Solution}
 use Rattle.exhibits.specs.declared.Toxic.{Toxic}
 use Rattle.scenario.specs.declared.Tenths.{Tenths}
 use Rattle.scenario.specs.declared.ToxicCard.{ToxicCard}

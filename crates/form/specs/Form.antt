@@ -6,8 +6,8 @@ use lib.Dec.{eqb}
 use Rattle.search.specs.Rising.{both}
 use Rattle.dispersion.specs.declared.Ground.the-variants.{Rural, Urban}
 use Rattle.release.specs.declared.Containment.the-variants.{Open, Dike, Building, ShedWithDoors}
-use Rattle.scenario.specs.declared.State.{State}
-use Rattle.scenario.specs.declared.State.the-variants.{Gas, Pressurized, Refrigerated, Liquid, Solution}
+use Rattle.which_table.specs.declared.State.{State}
+use Rattle.which_table.specs.declared.State.the-variants.{Gas, Pressurized, Refrigerated, Liquid, Solution}
 use Rattle.fields.specs.declared.Fields.{Fields}
 use Rattle.refusals.specs.declared.Refusal.the-variants as refusal
 use Rattle.form.specs.declared.StateByte.{StateByte}

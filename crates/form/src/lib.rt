@@ -6,7 +6,7 @@ use release::Building;
 use release::Containment;
 use release::Dike;
 use release::ShedWithDoors;
-use scenario::State;
+use which_table::State;
 ghost use mathlib.Core.Path.{_≡_};
 ghost use Rattle.form.specs.Form.{stateOf, groundOf, heldOf, heatFits, shapedState, blank, shapeOf};
 

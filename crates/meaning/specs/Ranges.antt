@@ -19,8 +19,8 @@ use Rattle.blast.specs.Blast.{isFlammable}
 use Rattle.blast.specs.Laws as blast
 use Rattle.release.specs.declared.Containment.{Containment}
 use Rattle.release.specs.declared.Containment.the-variants.{Open, Dike, Building, ShedWithDoors}
-use Rattle.scenario.specs.declared.State.{State}
-use Rattle.scenario.specs.declared.State.the-variants.{Gas, Pressurized, Refrigerated, Liquid, Solution}
+use Rattle.which_table.specs.declared.State.{State}
+use Rattle.which_table.specs.declared.State.the-variants.{Gas, Pressurized, Refrigerated, Liquid, Solution}
 use Rattle.fields.specs.declared.Fields.{Fields}
 use Rattle.refusals.specs.declared.Refusal.{Refusal}
 use Rattle.form.specs.declared.StateByte.the-variants as stateByte

@@ -22,7 +22,8 @@ use Rattle.blast.specs.Printed13.{quantities, table13}
 use Rattle.blast.specs.Blast.{blastReading, entryAt, isFlammable, rowOf}
 use Rattle.release.specs.Pool.{atMostTenMinutes, dikedArea, poolArea, poolRate}
 use Rattle.factors.specs.Factors.{columnOf}
-use Rattle.scenario.specs.Plan.{planOf, poolOf, tableOf, vaporOf}
+use Rattle.which_table.specs.WhichTable.{tableOf}
+use Rattle.scenario.specs.Plan.{planOf, poolOf, vaporOf}
 use Rattle.fields.specs.Layout.{fieldsOf}
 use Rattle.ranges.specs.Ranges.{badArea, badHeat, badPounds, badWall, boundsOf, signed, tenthsOf}
 use Rattle.meaning.specs.declared.Meaning.{Meaning}

@@ -2,7 +2,7 @@
 -- definition says. `search (ends, needs)` puts them to use.
 -- Assumes nothing.
 use Prim.Native.Nat.{ℕ, _≤_}
-use mathlib.Core.Path.{_≡_, _∙_, refl, ap, ap₂, sym, subst}
+use mathlib.Core.Path.{_≡_, _∙_, refl, ap, sym, subst}
 use mathlib.Core.List.{[], _∷_}
 use types.Run.{OneOf, miss}
 use denote.Enum.Declared.{tagOf}
@@ -11,20 +11,19 @@ use lib.IntN.{ℤ}
 use mir.Syntax.{w16}
 use mir.Val.{SFits, toZ, ofZ}
 use mir.Facts.{toZ-ofZ}
-use borrow.Author.Tests.{eq-eqb, ne-eqb}
 use Rattle.exhibits.specs.declared.Plume.{Plume}
 use Rattle.exhibits.specs.declared.Liquid.{Liquid}
 use Rattle.exhibits.specs.declared.Gas.{Gas}
 use Rattle.exhibits.specs.declared.Solution.{Solution}
 use Rattle.exhibits.specs.declared.Toxic.{Toxic}
 use Rattle.release.specs.declared.Containment.{Containment}
-use Rattle.dispersion.specs.declared.Ground.{Ground}
 use Rattle.units.specs.declared.PoundsPerMinute.{PoundsPerMinute}
 use Rattle.units.specs.declared.SquareFeet.{SquareFeet}
 use Rattle.release.specs.Pool.{poolArea, gasRate, poolRate, atMostTenMinutes, isBuilding}
-use Rattle.scenario.specs.declared.State.{State}
-use Rattle.scenario.specs.declared.State.the-variants as state
-use Rattle.scenario.proofs.State.{the-type}
+use Rattle.which_table.specs.declared.State.{State}
+use Rattle.which_table.specs.declared.State.the-variants as state
+use Rattle.which_table.proofs.State.{the-type}
+use Rattle.which_table.specs.WhichTable.{tableOf}
 use Rattle.scenario.specs.declared.Planned.{Planned}
 use Rattle.scenario.specs.declared.Planned.the-variants as planned
 use Rattle.scenario.specs.declared.Tenths.{Tenths}
@@ -38,26 +37,7 @@ use Rattle.factors.specs.Factors.{columnOf, factorsOf}
 use Rattle.factors.specs.Laws.{FactorsWithin, factors-within}
 use Rattle.exhibits.specs.Laws.{Within}
 use Rattle.exhibits.specs.declared.Toxic.the-variants as variants
-use Rattle.scenario.specs.Plan.{tableOf, ammoniaTable, genericTable, plumeIn, tenMinutesIn, vaporOf, poolOf, undiked, pooled, gasPlan, columnIn, liquidPlan, solutionPlan, factored, planFor, planOf}
-
-module _ (cas : ℕ) (s : State) (p : Plume) (g : Ground) (t : Bool) where
-  pub ammonia : (r : ℕ) → cas ≡ 7664417 → r ≡ ammoniaTable s → r ≡ tableOf cas s p g t
-  unfolding tableOf
-  ammonia r e q = simp (eq-eqb cas 7664417 e, tableOf) q
-
-  pub chlorine : (cas ≡ 7664417 → ⊥) → cas ≡ 7782505 → 11 ≡ tableOf cas s p g t
-  unfolding tableOf
-  chlorine n e = simp (ne-eqb cas 7664417 n, eq-eqb cas 7782505 e, tableOf)
-
-  pub sulfur : (cas ≡ 7664417 → ⊥) → (cas ≡ 7782505 → ⊥) → cas ≡ 7446095 → 12 ≡ tableOf cas s p g t
-  unfolding tableOf
-  sulfur n m e = simp (ne-eqb cas 7664417 n, ne-eqb cas 7782505 m, eq-eqb cas 7446095 e, tableOf)
-
-  pub generic : (r : ℕ) (q : Plume) (u : Bool) → (cas ≡ 7664417 → ⊥) → (cas ≡ 7782505 → ⊥) → (cas ≡ 7446095 → ⊥) → u ≡ tenMinutesIn s t → q ≡ plumeIn s p → r ≡ genericTable q g u → r ≡ tableOf cas s p g t
-  unfolding tableOf
-  generic r q u n m k d f h =
-      simp (ne-eqb cas 7664417 n, ne-eqb cas 7782505 m, ne-eqb cas 7446095 k, tableOf)
-      (h ∙ ap₂ (λ (x : Plume) (b : Bool). genericTable x g b) f d)
+use Rattle.scenario.specs.Plan.{vaporOf, poolOf, undiked, pooled, gasPlan, columnIn, liquidPlan, solutionPlan, factored, planFor, planOf}
 
 -- route 1, put together from its calls
 pub vapor-end : (card : ToxicCard) (endpoint : ℕ) (plume : Plume) {t : ℕ} {rate : PoundsPerMinute} {inside : Bool} → inside ≡ isBuilding (card .containment) → rate .0 ≡ gasRate (card .quantity .0) inside → t ≡ tableOf (card .cas) (card .state) plume (card .ground) true → _≡_ {A = Scenario} (record { route = 1; table = t; rate = rate; endpoint = endpoint }) (vaporOf card endpoint plume)

@@ -14,8 +14,8 @@ use Rattle.release.specs.declared.Containment.{Containment}
 use Rattle.release.specs.declared.Containment.the-variants.{Open, Dike, Building, ShedWithDoors}
 use Rattle.release.specs.Pool.{gasRate, beyondDike, isBuilding}
 use Rattle.release.specs.Laws.{Looser, open-open, dike-dike, building-building, shed-shed, area-mono, gas-mono, pool-mono}
-use Rattle.scenario.specs.declared.State.{State}
-use Rattle.scenario.specs.declared.State.the-variants.{Gas, Pressurized, Refrigerated, Liquid, Solution}
+use Rattle.which_table.specs.declared.State.{State}
+use Rattle.which_table.specs.declared.State.the-variants.{Gas, Pressurized, Refrigerated, Liquid, Solution}
 use Rattle.scenario.specs.declared.ToxicCard.{ToxicCard}
 use Rattle.scenario.specs.declared.Scenario.{Scenario}
 use Rattle.factors.specs.declared.Factors.{Factors}

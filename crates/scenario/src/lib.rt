@@ -1,4 +1,4 @@
-// Route, rate and choice of table of a toxic card: what the guidance does between a card's meaning and the tables.
+// Route and rate of a toxic card, with its table: what the guidance does between a card's meaning and the tables.
 use dispersion::Ground;
 use exhibits::Gas;
 use exhibits::Liquid;
@@ -10,19 +10,11 @@ use factors::Factors;
 use release::Containment;
 use units::Pounds;
 use units::PoundsPerMinute;
+use which_table::State;
 ghost use mathlib.Core.Path.{_≡_};
 ghost use Prim.Native.Nat.{_≤_};
 ghost use Rattle.exhibits.specs.Laws.{Within};
-ghost use Rattle.scenario.specs.Plan.{tableOf, vaporOf, poolOf, undiked, gasPlan, columnIn, liquidPlan, solutionPlan, planOf, Limits};
-
-// How the substance is held: document 01's states 1 to 4, and document 02's state 5, a water solution or oleum.
-pub enum State {
-    Gas,
-    Pressurized,
-    Refrigerated,
-    Liquid,
-    Solution,
-}
+ghost use Rattle.scenario.specs.Plan.{vaporOf, poolOf, undiked, gasPlan, columnIn, liquidPlan, solutionPlan, planOf, Limits};
 
 // What bytes 18 and 19 of a card say, and which of the two it is: signed tenths of a degree Celsius, or a solution's tenths of a
 // percent by weight.
@@ -56,74 +48,6 @@ pub enum Planned {
     Mismatch,
 }
 
-fn generic_table(plume: Plume, ground: Ground, ten_minutes: bool) -> u8
-    ensures { λ r. ⌜ r ≡ Rattle.scenario.specs.Plan.genericTable plume ground «ten_minutes» ⌝ }
-{
-    match plume {
-        Plume::Neutral => match ground {
-            Ground::Rural => if ten_minutes { 1 } else { 2 },
-            Ground::Urban => if ten_minutes { 3 } else { 4 },
-        },
-        Plume::Dense => match ground {
-            Ground::Rural => if ten_minutes { 5 } else { 6 },
-            Ground::Urban => if ten_minutes { 7 } else { 8 },
-        },
-    }
-}
-
-fn plume_in(state: State, plume: Plume) -> Plume
-    ensures { λ r. ⌜ r ≡ Rattle.scenario.specs.Plan.plumeIn state plume ⌝ }
-{
-    match state {
-        State::Gas => plume,
-        State::Pressurized => Plume::Dense,
-        State::Refrigerated => Plume::Dense,
-        State::Liquid => plume,
-        State::Solution => plume,
-    }
-}
-
-fn ammonia_table(state: State) -> u8
-    ensures { λ r. ⌜ r ≡ Rattle.scenario.specs.Plan.ammoniaTable state ⌝ }
-{
-    match state {
-        State::Gas => 10,
-        State::Pressurized => 9,
-        State::Refrigerated => 10,
-        State::Liquid => 10,
-        State::Solution => 10,
-    }
-}
-
-fn ten_minutes_in(state: State, ten_minutes: bool) -> bool
-    ensures { λ r. ⌜ r ≡ Rattle.scenario.specs.Plan.tenMinutesIn state «ten_minutes» ⌝ }
-{
-    match state {
-        State::Gas => ten_minutes,
-        State::Pressurized => ten_minutes,
-        State::Refrigerated => ten_minutes,
-        State::Liquid => ten_minutes,
-        State::Solution => true,
-    }
-}
-
-// The reference table of a substance: three have their own, the others go by plume, ground and duration.
-fn table(cas: u32, state: State, plume: Plume, ground: Ground, ten_minutes: bool) -> u8
-    ensures { λ r. ⌜ r ≡ tableOf cas state plume ground «ten_minutes» ⌝ }
-{
-    if cas == 7664417 {
-        return ammonia_table(state);
-    }
-    if cas == 7782505 {
-        return 11;
-    }
-    if cas == 7446095 {
-        return 12;
-    }
-    let ten = ten_minutes_in(state, ten_minutes);
-    generic_table(plume_in(state, plume), ground, ten)
-}
-
 // Route 1: the whole quantity as a gas over ten minutes.
 fn vapor(card: ToxicCard, endpoint: u32, plume: Plume) -> Scenario
     ensures { λ r. ⌜ r ≡ vaporOf card endpoint plume ⌝ }
@@ -134,7 +58,7 @@ fn vapor(card: ToxicCard, endpoint: u32, plume: Plume) -> Scenario
     let ground = card.ground;
     let inside = release::is_building(containment);
     let rate = release::gas_rate(quantity, inside);
-    let number = table(card.cas, state, plume, ground, true);
+    let number = which_table::table(card.cas, state, plume, ground, true);
     Scenario {
         route: 1,
         table: number,
@@ -169,7 +93,7 @@ fn pool(card: ToxicCard, source: Source) -> Scenario
     let area = release::pool_area(quantity, source.df, containment);
     let rate = release::pool_rate(source.lf, source.tcf, area, source.shed);
     let ten = release::at_most_ten_minutes(quantity, rate);
-    let number = table(card.cas, state, plume, ground, ten);
+    let number = which_table::table(card.cas, state, plume, ground, ten);
     Scenario {
         route: 2,
         table: number,

@@ -17,7 +17,8 @@ use Rattle.rules.specs.Rules.{answered, apart, byRow, closest, closestColumn, c
 use Rattle.dispersion.specs.Tables.{readIn, readingOf, tables}
 use Rattle.release.specs.Pool.{atMostTenMinutes, dikedArea, poolRate}
 use Rattle.factors.specs.Factors.{columnOf}
-use Rattle.scenario.specs.Plan.{planOf, poolOf, tableOf}
+use Rattle.which_table.specs.WhichTable.{tableOf}
+use Rattle.scenario.specs.Plan.{planOf, poolOf}
 use Rattle.buffer.specs.Numbers.{twoBytes, fourBytes}
 use Rattle.decimal.specs.Decimal.{digits, padded}
 use Rattle.decimal.specs.Laws.{digits-short}

@@ -1,7 +1,7 @@
-use Rattle.scenario.proofs.Ends.{ammonia, chlorine, sulfur, generic}
+use Rattle.which_table.proofs.Ends.{ammonia, chlorine, sulfur, generic}
 use borrow.Author.Needs.{needs}
-use Rattle.scenario.proofs.table.Statement.{statement}
-use Rattle.scenario.proofs.table.Tie as tie
+use Rattle.which_table.proofs.table.Statement.{statement}
+use Rattle.which_table.proofs.table.Tie as tie
 
 ammonia-table-requires : tie.Need-ammonia-table-requires
 ammonia-table-requires c κs = search needs
