@@ -7,7 +7,7 @@ use lib.ListN.{take, drop, length}
 use Rattle.buffer.specs.Numbers.{byteAt}
 use Rattle.card.specs.declared.Class.{Class}
 use Rattle.card.specs.declared.Class.the-variants as class
-use Rattle.card.specs.Order.{kindOf, Counterpart}
+use Rattle.ordering.specs.Order.{kindOf, Counterpart}
 use Rattle.farthest.specs.declared.Leaders.{Leaders}
 use Rattle.farthest.specs.declared.Farthest.{Farthest}
 use Rattle.farthest.specs.Farthest.{NoFarther}

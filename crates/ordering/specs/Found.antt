@@ -6,7 +6,7 @@ use native.Mathlib.Nat.{le-of-suc-le-suc, not-suc-le-zero}
 use mathlib.Core.Path.{_≡_, _∙_, refl, sym, ap, subst}
 use mathlib.Core.Bool.{Bool, true, false}
 use mathlib.Core.List.{List, [], _∷_}
-use lib.ListN.{take, drop, length}
+use lib.ListN.{take, drop}
 use lib.Seq.{drop-drop}
 use borrow.Author.Tests.{le-ltb}
 use Rattle.search.specs.Laws.{clash}
@@ -20,11 +20,10 @@ use Rattle.farthest.specs.Farthest.{At, leadersOf}
 use Rattle.header.specs.declared.Header.{Header}
 use Rattle.header.specs.declared.Header.the-variants as header
 use Rattle.header.specs.Header.{badLength, badVersion, badCount, badBuffer, headerIf, headerOf, countOf}
-use Rattle.walk.specs.declared.Outcome.{Outcome}
 use Rattle.walk.specs.declared.Outcome.the-variants as outcome
 use Rattle.register.specs.Register.{Cards, answers, sent-back, joined, then, cardsFrom, cardsOf, resultOf, afterHeader, outcomeOf}
 use Rattle.register.specs.Laws.{joined-is}
-use Rattle.ordering.specs.Claim.{cardAt, Accepts}
+use Rattle.ordering.specs.Claim.{cardAt}
 
 -- the answer at a place is that of the card's bytes there, after some last number
 pub AnswerAt : List ℕ → ℕ → Answer → Type 0

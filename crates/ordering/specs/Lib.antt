@@ -1,3 +1,4 @@
+pub mod Order
 pub mod Claim
 pub mod Found
 pub mod Ordering

@@ -1,19 +1,16 @@
 -- Demand 3, proved: a planner who compares two accepted registers never sees a ring shrink for a fuller tank.
 -- Assumes nothing.
-use Prim.Native.Nat.{ℕ, _<_}
+use Prim.Native.Nat.{ℕ}
 use mathlib.Core.Path.{_≡_, _∙_, sym, ap, subst₂}
 use mathlib.Core.List.{List}
 use lib.ListN.{length}
-use Rattle.buffer.specs.Numbers.{byteAt}
 use Rattle.card.specs.declared.Class.{Class}
 use Rattle.card.specs.declared.Class.the-variants as class
 use Rattle.card.specs.declared.Answer.{Answer}
-use Rattle.card.specs.Order.{kindOf, Counterpart, cards-ordered, class-is}
+use Rattle.ordering.specs.Order.{kindOf, cards-ordered, class-is}
 use Rattle.farthest.specs.declared.Leaders.{Leaders}
-use Rattle.farthest.specs.declared.Farthest.{Farthest}
 use Rattle.farthest.specs.Farthest.{At, Matched, NoFarther, farthestOf, leadersOf}
 use Rattle.farthest.specs.Laws.{no-farther, leaders-toxic, leaders-flammable}
-use Rattle.header.specs.Header.{countOf}
 use Rattle.ordering.specs.Claim.{cardAt, Accepts, farthestIn, Covered, RingsOrdered}
 use Rattle.ordering.specs.Found.{found, from-card, to-card}
 

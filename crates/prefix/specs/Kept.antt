@@ -17,7 +17,7 @@ use Rattle.card.specs.declared.Class.the-variants as class
 use Rattle.card.specs.declared.Answer.{Answer}
 use Rattle.card.specs.declared.Answered.the-variants as answered
 use Rattle.card.specs.Answers.{answerOf}
-use Rattle.card.specs.Order.{kindOf, answer-first, class-is}
+use Rattle.ordering.specs.Order.{kindOf, answer-first, class-is}
 use Rattle.card.specs.Number.{answer-number}
 use Rattle.farthest.specs.declared.Farthest.the-variants as farthest
 use Rattle.farthest.specs.declared.Leaders.{Leaders}
