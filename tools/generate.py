@@ -414,9 +414,9 @@ def forms_import(names):
     return f"use Rattle.rules.specs.Printed.{{{', '.join(names)}}}"
 
 
-def variants_import(enum, used, variants):
+def variants_import(enum, used, variants, specs="Rattle.exhibits.specs"):
     names = [variant for variant in variants if variant in used]
-    return f"use Rattle.exhibits.specs.declared.{enum}.the-variants.{{{', '.join(names)}}}"
+    return f"use {specs}.declared.{enum}.the-variants.{{{', '.join(names)}}}"
 
 
 def printed_b1(gases):
@@ -465,8 +465,8 @@ def printed_b3(solutions):
         "data/b3.tsv",
         "Exhibit B-3 as printed. Concentrations in tenths of a percent, endpoints in hundred-thousandths of mg/L, LFA in\n"
         "-- millionths, DF in hundredths.",
-        [LIST_IMPORT, printed_import("exhibits", ["SolutionLine", "solution"]),
-         variants_import("Plume", {x["plume"] for x in solutions}, ("Neutral", "Dense"))],
+        [LIST_IMPORT, "use Rattle.exhibits.specs.Printed.{SolutionLine, solution}",
+         variants_import("Plume", {x["plume"] for x in solutions}, ("Neutral", "Dense"), "Rattle.exhibits.specs")],
         [antt_definition("Exhibit B-3, water solutions and oleum, in the printed order: CAS number, concentration, endpoint, LFA at "
                          "1.5 m/s, DF,\n-- worst-case plume", "b3", "SolutionLine", items)])
 
@@ -660,8 +660,8 @@ def solution_lines(solutions):
         [rt_match("The line of Exhibit B-3 that is read at a concentration: the lowest printed one not below it.",
                   "line_of(cas: u32, tenths: u16) -> Line", "r ≡ lineOf (readAt cas tenths)", "cas", arms,
                   exhibit_line(KIND_NONE))],
-        ["use crate::Line;", "ghost use mathlib.Core.Path.{_≡_};",
-         "ghost use Rattle.exhibits.specs.Lines.{lineOf, readAt};"])
+        ["use exhibits::Line;", "ghost use mathlib.Core.Path.{_≡_};", "ghost use Rattle.exhibits.specs.Lines.{lineOf};",
+         "ghost use Rattle.solutions.specs.Lines.{readAt};"])
 
 
 def exhibit_proof(gases, liquids):
@@ -686,11 +686,11 @@ def solution_proof(solutions):
     steps += [f"above {cas} {lines[-1]['percent']} refl" for cas, lines in groups.items()]
     proofs = [f"search ({step}, needs)" for step in steps]
     return exits_proof(
-        "exhibits", "solutions", "line_of", "each step of an arm\n-- is what is printed at its upper end. Assumes nothing.",
+        "solutions", "tables", "line_of", "each step of an arm\n-- is what is printed at its upper end. Assumes nothing.",
         ["use mathlib.Core.Path.{refl}", "use mathlib.Core.List.{[], _∷_}", "use borrow.Author.Needs.{needs}",
-         "use Rattle.search.specs.Places.{among}", "use Rattle.exhibits.specs.PrintedB3.{b3}",
-         "use Rattle.exhibits.specs.Solutions.{linesOf, lowest}", "use Rattle.exhibits.specs.Lines.{readAt}",
-         "use Rattle.exhibits.proofs.Steps.{up-to, between, above, no-line}"],
+         "use Rattle.search.specs.Places.{among}", "use Rattle.solutions.specs.PrintedB3.{b3}",
+         "use Rattle.solutions.specs.Solutions.{linesOf, lowest}", "use Rattle.solutions.specs.Lines.{readAt}",
+         "use Rattle.solutions.proofs.Steps.{up-to, between, above, no-line}"],
         "readAt among linesOf lowest b3", proofs + [f"no-line _ _ ({antt_list(groups)}) refl (c .match .rest)"])
 
 
@@ -786,12 +786,12 @@ def generated_files():
     return {
         "crates/exhibits/specs/PrintedB1.antt": printed_b1(gases),
         "crates/exhibits/specs/PrintedB2.antt": printed_b2(liquids),
-        "crates/exhibits/specs/PrintedB3.antt": printed_b3(solutions),
         "crates/exhibits/specs/PrintedB4.antt": printed_b4(factors),
-        "crates/exhibits/src/solutions.rt": solution_lines(solutions),
         "crates/exhibits/src/tables.rt": exhibit_lines(gases, liquids, factors),
         "crates/exhibits/proofs/tables/line_of/Proof.antt": exhibit_proof(gases, liquids),
-        "crates/exhibits/proofs/solutions/line_of/Proof.antt": solution_proof(solutions),
+        "crates/solutions/specs/PrintedB3.antt": printed_b3(solutions),
+        "crates/solutions/src/tables.rt": solution_lines(solutions),
+        "crates/solutions/proofs/tables/line_of/Proof.antt": solution_proof(solutions),
         "crates/neutral/specs/PrintedNeutral.antt": printed_neutral(neutral),
         "crates/neutral/src/tables.rt": neutral_arrays(neutral),
         "crates/dense/specs/PrintedDense.antt": printed_dense(dense),

@@ -13,7 +13,7 @@ use Rattle.search.specs.Places.{either, among}
 use Rattle.units.specs.declared.Reading.{Reading}
 use Rattle.units.specs.declared.Reading.the-variants as reading
 use Rattle.exhibits.specs.declared.Toxic.{Toxic}
-use Rattle.exhibits.specs.Solutions.{badPercent}
+use Rattle.solutions.specs.Solutions.{badPercent}
 use Rattle.dispersion.specs.Tables.{readingOf}
 use Rattle.blast.specs.Blast.{isFlammable, blastReading}
 use Rattle.which_table.specs.declared.State.{State}

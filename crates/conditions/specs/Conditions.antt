@@ -14,9 +14,9 @@ use Rattle.exhibits.specs.declared.Cell.{Cell}
 use Rattle.exhibits.specs.declared.Cell.the-variants.{Factor, Lfb, NoData}
 use Rattle.exhibits.specs.PrintedB1.{b1}
 use Rattle.exhibits.specs.PrintedB2.{b2}
-use Rattle.exhibits.specs.PrintedB3.{b3}
 use Rattle.exhibits.specs.Exhibits.{gasCas, liquidCas, factorsOf}
-use Rattle.exhibits.specs.Solutions.{solutionCas, badPercent}
+use Rattle.solutions.specs.PrintedB3.{b3}
+use Rattle.solutions.specs.Solutions.{solutionCas, badPercent}
 use Rattle.dispersion.specs.declared.Ground.{Ground}
 use Rattle.dispersion.specs.declared.Ground.the-variants.{Rural, Urban}
 use Rattle.rules.specs.Rules.{distance, inUse, larger, closest, closestColumn, fromColumn, thousandths, lastOf, past, markOf, mileLimit}

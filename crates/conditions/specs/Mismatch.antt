@@ -23,8 +23,8 @@ use Rattle.exhibits.specs.declared.Toxic.{Toxic}
 use Rattle.exhibits.specs.declared.Toxic.the-variants.{OfGas, OfLiquid, NotListed}
 use Rattle.exhibits.specs.Printed.{solution}
 use Rattle.exhibits.specs.Exhibits.{factorsOf, toxicOf}
-use Rattle.exhibits.specs.Solutions.{solutionOf}
-use Rattle.exhibits.specs.SolutionLaws.{Says, a-line, out-of-range, not-listed, says}
+use Rattle.solutions.specs.Solutions.{solutionOf}
+use Rattle.solutions.specs.SolutionLaws.{Says, a-line, out-of-range, not-listed, says}
 use Rattle.rules.specs.Rules.{larger, closest}
 use Rattle.release.specs.declared.Containment.{Containment}
 use Rattle.release.specs.declared.Containment.the-variants.{Open, Dike, Building, ShedWithDoors}

@@ -15,8 +15,8 @@ use Rattle.exhibits.specs.Printed.{GasLine, gas, LiquidLine, liquid, solution}
 use Rattle.exhibits.specs.PrintedB1.{b1}
 use Rattle.exhibits.specs.PrintedB2.{b2}
 use Rattle.exhibits.specs.Exhibits.{gasCas, liquidCas, gasIn, liquidIn, factorsOf, toxicOf}
-use Rattle.exhibits.specs.Solutions.{badPercent, solutionOf}
-use Rattle.exhibits.specs.SolutionLaws.{Says, a-line, out-of-range, not-listed, says}
+use Rattle.solutions.specs.Solutions.{badPercent, solutionOf}
+use Rattle.solutions.specs.SolutionLaws.{Says, a-line, out-of-range, not-listed, says}
 use Rattle.fields.specs.Layout.{fieldsOf}
 use Rattle.ranges.specs.Ranges.{isOutOfRange}
 use Rattle.meaning.specs.Reading.{isListed}

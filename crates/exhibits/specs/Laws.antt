@@ -17,11 +17,8 @@ use Rattle.exhibits.specs.declared.Toxic.{Toxic}
 use Rattle.exhibits.specs.declared.Toxic.the-variants.{OfGas, OfLiquid, OfSolution, OutOfRange, NotListed}
 use Rattle.exhibits.specs.PrintedB1.{b1}
 use Rattle.exhibits.specs.PrintedB2.{b2}
-use Rattle.exhibits.specs.PrintedB3.{b3}
 use Rattle.exhibits.specs.PrintedB4.{b4}
 use Rattle.exhibits.specs.Exhibits.{gasCas, liquidCas, gasIn, liquidIn, factorsOf, toxicOf}
-use Rattle.exhibits.specs.Solutions.{solutionOf}
-use Rattle.exhibits.specs.SolutionLaws.{dissolved}
 use Rattle.exhibits.specs.Lines.{lfaOf, lfbOf, dfOf, correctionsOf, lineOf}
 
 -- a CAS number that is in neither exhibit
@@ -81,7 +78,7 @@ pub record Within (t : Toxic) : Type 0 where
   pub at50-limit : CellWithin (correctionsOf t .at50)
 
 -- the same as a test that computes
-unfoldable fits : Toxic → Bool
+unfoldable pub fits : Toxic → Bool
 fits t =
     both (leb (lfaOf t) 1000000)
     (both (leb (lfbOf t) 1000000)
@@ -91,7 +88,7 @@ fits t =
     (both (cellFits (correctionsOf t .at40))
     (both (cellFits (correctionsOf t .at45)) (cellFits (correctionsOf t .at50))))))))
 
-fits-within : (t : Toxic) → fits t ≡ true → Within t
+pub fits-within : (t : Toxic) → fits t ≡ true → Within t
 unfolding fits
 fits-within t e =
     let a = both-true (leb (lfaOf t) 1000000) _ e in
@@ -116,10 +113,6 @@ pub within : (cas : ℕ) → Within (toxicOf cas)
 unfolding fits factorsOf lookUp b1 b2 b4
 within cas = fits-within (toxicOf cas) (listed fits refl refl refl cas)
 
-pub solution-within : (cas tenths : ℕ) → Within (solutionOf cas tenths)
-unfolding fits b3
-solution-within cas tenths = fits-within (solutionOf cas tenths) (dissolved fits refl refl refl cas tenths)
-
 -- no endpoint is zero, so a rate may be divided by it
 abbrev pub Positive : Toxic → Type 0
 Positive (OfGas g) = 1 ≤ g .endpoint
@@ -128,14 +121,14 @@ Positive (OfSolution s) = 1 ≤ s .endpoint
 Positive OutOfRange = Unit {0}
 Positive NotListed = Unit {0}
 
-abbrev hasEndpoint : Toxic → Bool
+abbrev pub hasEndpoint : Toxic → Bool
 hasEndpoint (OfGas g) = leb 1 (g .endpoint)
 hasEndpoint (OfLiquid l) = leb 1 (l .endpoint)
 hasEndpoint (OfSolution s) = leb 1 (s .endpoint)
 hasEndpoint OutOfRange = true
 hasEndpoint NotListed = true
 
-above-zero : (t : Toxic) → hasEndpoint t ≡ true → Positive t
+pub above-zero : (t : Toxic) → hasEndpoint t ≡ true → Positive t
 above-zero (OfGas g) e = leb-true 1 (g .endpoint) e
 above-zero (OfLiquid l) e = leb-true 1 (l .endpoint) e
 above-zero (OfSolution s) e = leb-true 1 (s .endpoint) e
@@ -145,7 +138,3 @@ above-zero NotListed e = tt
 pub positive : (cas : ℕ) → Positive (toxicOf cas)
 unfolding b1 b2
 positive cas = above-zero (toxicOf cas) (listed hasEndpoint refl refl refl cas)
-
-pub solution-positive : (cas tenths : ℕ) → Positive (solutionOf cas tenths)
-unfolding b3
-solution-positive cas tenths = above-zero (solutionOf cas tenths) (dissolved hasEndpoint refl refl refl cas tenths)

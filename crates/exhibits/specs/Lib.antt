@@ -1,10 +1,8 @@
 pub mod Printed
 pub mod PrintedB1
 pub mod PrintedB2
-pub mod PrintedB3
 pub mod PrintedB4
 pub mod Exhibits
-pub mod Solutions
-pub mod SolutionLaws
 pub mod Lines
 pub mod Laws
+pub mod Back

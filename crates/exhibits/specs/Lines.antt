@@ -2,9 +2,7 @@
 -- Assumes nothing.
 use Prim.Native.Nat.{ℕ}
 use mathlib.Core.Bool.{Bool, true, false}
-use mathlib.Core.List.{map}
 use lib.Dec.{eqb}
-use Rattle.search.specs.Places.{among}
 use Rattle.exhibits.specs.declared.Cell.{Cell}
 use Rattle.exhibits.specs.declared.Cell.the-variants.{Factor, Lfb, NoData}
 use Rattle.exhibits.specs.declared.Plume.{Plume}
@@ -16,9 +14,7 @@ use Rattle.exhibits.specs.declared.Solution.{Solution}
 use Rattle.exhibits.specs.declared.Line.{Line}
 use Rattle.exhibits.specs.declared.Toxic.{Toxic}
 use Rattle.exhibits.specs.declared.Toxic.the-variants.{OfGas, OfLiquid, OfSolution, OutOfRange, NotListed}
-use Rattle.exhibits.specs.PrintedB3.{b3}
 use Rattle.exhibits.specs.Exhibits.{noData}
-use Rattle.exhibits.specs.Solutions.{solutionCas, linesOf, lowest, lineRead}
 
 -- the fields of a substance; one that it does not have is kept as 0, or as no data. Its kind is 1 for a gas of B-1, 2 for a
 -- liquid of B-2, 3 for a solution of B-3, 4 for one above the highest concentration there, 0 for none.
@@ -137,8 +133,3 @@ liquidFrom l = record {
 
 abbrev pub solutionFrom : Line → Solution
 solutionFrom l = record { lfa = l .lfa; df = l .df; endpoint = l .endpoint; plume = plumeFrom (l .dense) }
-
--- what is read of Exhibit B-3 before it is asked whether the concentration is zero: the line that the code finds
-unfoldable pub readAt : ℕ → ℕ → Toxic
-readAt cas tenths =
-    elim (among cas (map solutionCas b3)) [ true ↦ lineRead (lowest tenths (linesOf cas b3)) | false ↦ NotListed ]

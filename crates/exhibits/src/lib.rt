@@ -1,11 +1,10 @@
-// Exhibits B-1 to B-4: what they say of a toxic substance. A mark for no data is a case of its own, never a number.
-mod solutions;
+// Exhibits B-1, B-2 and B-4, and the types of what all four say of a toxic substance. A mark for no data is a case of its own,
+// never a number.
 mod tables;
 
 ghost use mathlib.Core.Path.{_≡_};
 ghost use Rattle.exhibits.specs.Exhibits.{toxicOf};
-ghost use Rattle.exhibits.specs.Solutions.{solutionOf};
-ghost use Rattle.exhibits.specs.Lines.{plumeFrom, cellFrom, correctionsFrom, gasFrom, liquidFrom, solutionFrom};
+ghost use Rattle.exhibits.specs.Lines.{plumeFrom, cellFrom, correctionsFrom, gasFrom, liquidFrom};
 
 // How the worst-case plume behaves in air.
 pub enum Plume {
@@ -67,21 +66,21 @@ pub enum Toxic {
 // The exhibits' line of a substance, in numbers: 1 for a gas of B-1, 2 for a liquid of B-2, 3 for a solution of B-3, 4 for one
 // above the highest concentration there, 0 for none; 1 for a dense plume; a cell of B-4 as a factor, 65534 for LFB or 65535 for
 // no data.
-struct Line {
-    kind: u8,
-    lfa: u32,
-    lfb: u32,
-    df: u8,
-    endpoint: u32,
-    dense: u8,
-    at30: u16,
-    at35: u16,
-    at40: u16,
-    at45: u16,
-    at50: u16,
+pub struct Line {
+    pub kind: u8,
+    pub lfa: u32,
+    pub lfb: u32,
+    pub df: u8,
+    pub endpoint: u32,
+    pub dense: u8,
+    pub at30: u16,
+    pub at35: u16,
+    pub at40: u16,
+    pub at45: u16,
+    pub at50: u16,
 }
 
-fn plume_from(dense: u8) -> Plume
+pub fn plume_from(dense: u8) -> Plume
     ensures { λ r. ⌜ r ≡ plumeFrom dense ⌝ }
 {
     if dense == 1 {
@@ -151,32 +150,4 @@ pub fn toxic_of(cas: u32) -> Toxic
         return Toxic::OfLiquid(liquid_in(line));
     }
     Toxic::NotListed
-}
-
-fn solution_in(line: Line) -> Solution
-    ensures { λ r. ⌜ r ≡ solutionFrom line ⌝ }
-{
-    Solution {
-        lfa: line.lfa,
-        df: line.df,
-        endpoint: line.endpoint,
-        plume: plume_from(line.dense),
-    }
-}
-
-// What Exhibit B-3 says of this CAS number at a concentration in tenths of a percent.
-pub fn solution_of(cas: u32, tenths: u16) -> Toxic
-    ensures { λ r. ⌜ r ≡ solutionOf cas tenths ⌝ }
-{
-    let line = solutions::line_of(cas, tenths);
-    if line.kind == 0 {
-        return Toxic::NotListed;
-    }
-    if tenths == 0 {
-        return Toxic::OutOfRange;
-    }
-    if line.kind == 3 {
-        return Toxic::OfSolution(solution_in(line));
-    }
-    Toxic::OutOfRange
 }

@@ -9,8 +9,9 @@ use borrow.Author.Tests.{eq-eqb, ne-eqb}
 use Rattle.units.specs.declared.Pounds.{Pounds}
 use Rattle.exhibits.specs.declared.Toxic.{Toxic}
 use Rattle.exhibits.specs.Exhibits.{toxicOf}
-use Rattle.exhibits.specs.Solutions.{solutionOf}
-use Rattle.exhibits.specs.Laws.{Within, within, solution-within}
+use Rattle.exhibits.specs.Laws.{Within, within}
+use Rattle.solutions.specs.Solutions.{solutionOf}
+use Rattle.solutions.specs.SolutionLaws.{solution-within}
 use Rattle.scenario.specs.declared.Tenths.{Tenths}
 use Rattle.scenario.specs.Plan.{Limits}
 use Rattle.blast.specs.Blast.{isFlammable}

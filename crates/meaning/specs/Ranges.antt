@@ -11,8 +11,8 @@ use Rattle.exhibits.specs.declared.Toxic.{Toxic}
 use Rattle.exhibits.specs.declared.Toxic.the-variants.{NotListed}
 use Rattle.exhibits.specs.Exhibits.{toxicOf}
 use Rattle.exhibits.specs.Laws as exhibits
-use Rattle.exhibits.specs.Solutions.{solutionOf}
-use Rattle.exhibits.specs.SolutionLaws.{solution-below, solution-percent}
+use Rattle.solutions.specs.Solutions.{solutionOf}
+use Rattle.solutions.specs.SolutionLaws.{solution-below, solution-percent}
 use Rattle.dispersion.specs.declared.Ground.{Ground}
 use Rattle.dispersion.specs.declared.Ground.the-variants.{Rural, Urban}
 use Rattle.blast.specs.Blast.{isFlammable}

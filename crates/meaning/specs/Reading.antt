@@ -8,7 +8,7 @@ use Rattle.search.specs.Places.{either}
 use Rattle.exhibits.specs.declared.Toxic.{Toxic}
 use Rattle.exhibits.specs.declared.Toxic.the-variants.{OfGas, OfLiquid, OfSolution, OutOfRange, NotListed}
 use Rattle.exhibits.specs.Exhibits.{toxicOf}
-use Rattle.exhibits.specs.Solutions.{solutionOf}
+use Rattle.solutions.specs.Solutions.{solutionOf}
 use Rattle.blast.specs.Blast.{isFlammable}
 use Rattle.scenario.specs.Plan.{Limits}
 use Rattle.fields.specs.declared.Fields.{Fields}

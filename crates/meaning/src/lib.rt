@@ -34,7 +34,7 @@ fn substance_of(f: Fields) -> Toxic
     ensures { λ r. ⌜ r ≡ substanceOf f ⌝ }
 {
     if f.state == 5 {
-        return exhibits::solution_of(f.cas, f.heat);
+        return solutions::solution_of(f.cas, f.heat);
     }
     exhibits::toxic_of(f.cas)
 }

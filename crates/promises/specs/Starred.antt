@@ -8,11 +8,11 @@ use Rattle.search.specs.Rising.{firstAtLeast}
 use Rattle.search.specs.Places.{among, lookUp}
 use Rattle.exhibits.specs.PrintedB1.{b1}
 use Rattle.exhibits.specs.PrintedB2.{b2}
-use Rattle.exhibits.specs.PrintedB3.{b3}
 use Rattle.exhibits.specs.PrintedB4.{b4}
 use Rattle.exhibits.specs.Lines.{dfOf}
 use Rattle.exhibits.specs.Exhibits.{factorsOf, toxicOf}
-use Rattle.exhibits.specs.Solutions.{badPercent, highest, linesOf, lowest, solutionOf}
+use Rattle.solutions.specs.PrintedB3.{b3}
+use Rattle.solutions.specs.Solutions.{badPercent, highest, linesOf, lowest, solutionOf}
 use Rattle.neutral.specs.PrintedNeutral.{table1, table2, table3, table4}
 use Rattle.dense.specs.PrintedDense.{endpoints5, endpoints6, endpoints7, endpoints8, rates5, rates6, rates7, rates8, table5, table6, table7, table8}
 use Rattle.dispersion.specs.PrintedChemical.{table9, table10, table11, table12}

@@ -1,7 +1,7 @@
 -- `exhibits::toxic_of` meets its contract: the line of a CAS number says whether it is a gas, a liquid or neither, and what is
 -- read back from it is what the exhibits print. Assumes nothing.
 use borrow.Author.Needs.{needs}
-use Rattle.exhibits.proofs.Back.{gas-is, liquid-is, none-is}
+use Rattle.exhibits.specs.Back.{gas-is, liquid-is, none-is}
 use Rattle.exhibits.proofs.toxic_of.Statement.{statement}
 use Rattle.exhibits.proofs.toxic_of.Tie as tie
 

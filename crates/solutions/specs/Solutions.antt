@@ -5,10 +5,10 @@ use mathlib.Core.Bool.{Bool, true, false}
 use mathlib.Core.List.{List, [], _∷_, map}
 use lib.Dec.{leb, ltb, eqb}
 use Rattle.search.specs.Places.{either, among}
 use Rattle.exhibits.specs.declared.Toxic.{Toxic}
 use Rattle.exhibits.specs.declared.Toxic.the-variants.{OfSolution, OutOfRange, NotListed}
 use Rattle.exhibits.specs.Printed.{SolutionLine, solution}
-use Rattle.exhibits.specs.PrintedB3.{b3}
+use Rattle.solutions.specs.PrintedB3.{b3}
 
 -- the CAS number of a line, and its concentration
 abbrev pub solutionCas : SolutionLine → ℕ

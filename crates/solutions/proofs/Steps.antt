@@ -11,16 +11,17 @@ use Rattle.search.specs.Laws.{clash, both-true}
 use Rattle.search.specs.Places.{either, among, every}
 use Rattle.search.specs.PlaceLaws.{among-each}
 use Rattle.search.specs.Arms.{Missed, missed}
 use Rattle.exhibits.specs.declared.Line.{Line}
 use Rattle.exhibits.specs.declared.Solution.{Solution}
 use Rattle.exhibits.specs.declared.Toxic.{Toxic}
 use Rattle.exhibits.specs.declared.Toxic.the-variants.{OfGas, OfLiquid, OfSolution, OutOfRange, NotListed}
 use Rattle.exhibits.specs.Printed.{SolutionLine, solution}
-use Rattle.exhibits.specs.PrintedB3.{b3}
-use Rattle.exhibits.specs.Solutions.{solutionCas, percentOf, linesOf, Found, none, found, lower, lowest, highest, badPercent, lineRead, unlessOut, solutionOf}
-use Rattle.exhibits.specs.Lines.{kindOf, lineOf, solutionFrom, readAt}
-use Rattle.exhibits.specs.SolutionLaws.{Rightly, lowest-right, under-highest}
-use Rattle.exhibits.proofs.Back.{solution-back, none-back}
+use Rattle.exhibits.specs.Lines.{kindOf, lineOf, solutionFrom}
+use Rattle.exhibits.specs.Back.{solution-back, none-back}
+use Rattle.solutions.specs.PrintedB3.{b3}
+use Rattle.solutions.specs.Solutions.{solutionCas, percentOf, linesOf, Found, none, found, lower, lowest, highest, badPercent, lineRead, unlessOut, solutionOf}
+use Rattle.solutions.specs.Lines.{readAt}
+use Rattle.solutions.specs.SolutionLaws.{Rightly, lowest-right, under-highest}
 
 -- two concentrations that every line of a list tells alike read the same
 alike : (a b : ℕ) (test : ℕ → Bool) → ((p : ℕ) → test p ≡ true → leb a p ≡ leb b p) → (lines : List SolutionLine) → every (λ l. test (percentOf l)) lines ≡ true → lowest a lines ≡ lowest b lines

@@ -11,11 +11,12 @@ use borrow.Author.Tests.{leb-true, leb-false, ltb-true, ltb-false, eqb-true, eqb
 use Rattle.search.specs.Laws.{both-true}
 use Rattle.search.specs.Places.{among, every}
 use Rattle.search.specs.PlaceLaws.{neither, among-each}
 use Rattle.exhibits.specs.declared.Toxic.{Toxic}
 use Rattle.exhibits.specs.declared.Toxic.the-variants.{OutOfRange, NotListed}
 use Rattle.exhibits.specs.Printed.{SolutionLine}
-use Rattle.exhibits.specs.PrintedB3.{b3}
-use Rattle.exhibits.specs.Solutions.{solutionCas, percentOf, solutionIn, linesOf, Found, none, found, lower, lowest, highest, badPercent, lineRead, unlessOut, solutionOf}
+use Rattle.exhibits.specs.Laws.{Within, fits, fits-within, Positive, hasEndpoint, above-zero}
+use Rattle.solutions.specs.PrintedB3.{b3}
+use Rattle.solutions.specs.Solutions.{solutionCas, percentOf, solutionIn, linesOf, Found, none, found, lower, lowest, highest, badPercent, lineRead, unlessOut, solutionOf}
 
 -- a line stands in a list
 pub data In (line : SolutionLine) : List SolutionLine → Type 0 where
@@ -209,3 +210,13 @@ solution-percent cas tenths n m = go (solutionOf cas tenths) (says cas tenths) n
         omega (arith, l .not-below, leb-true (percentOf line) 1_000 (in-each (λ x. leb (percentOf x) 1_000) b3 line (l .printed) refl))
     go _ (out-of-range p q) n m = absurd (m refl)
     go _ (not-listed p) n m = absurd (n refl)
+
+-- each factor is within its limit
+pub solution-within : (cas tenths : ℕ) → Within (solutionOf cas tenths)
+unfolding fits b3
+solution-within cas tenths = fits-within (solutionOf cas tenths) (dissolved fits refl refl refl cas tenths)
+
+-- no endpoint is zero
+pub solution-positive : (cas tenths : ℕ) → Positive (solutionOf cas tenths)
+unfolding b3
+solution-positive cas tenths = above-zero (solutionOf cas tenths) (dissolved hasEndpoint refl refl refl cas tenths)

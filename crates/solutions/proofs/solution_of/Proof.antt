@@ -1,9 +1,9 @@
--- `exhibits::solution_of` meets its contract: the line that was found says whether the substance is listed, and what is read back
+-- `solutions::solution_of` meets its contract: the line that was found says whether the substance is listed, and what is read back
 -- from it is what Exhibit B-3 prints, unless the concentration is zero. Assumes nothing.
 use borrow.Author.Needs.{needs}
-use Rattle.exhibits.proofs.Steps.{unlisted, zero-is, solution-is, above-is}
-use Rattle.exhibits.proofs.solution_of.Statement.{statement}
-use Rattle.exhibits.proofs.solution_of.Tie as tie
+use Rattle.solutions.proofs.Steps.{unlisted, zero-is, solution-is, above-is}
+use Rattle.solutions.proofs.solution_of.Statement.{statement}
+use Rattle.solutions.proofs.solution_of.Tie as tie
 
 line-of-requires : tie.Need-line-of-requires
 line-of-requires c κs = search needs

@@ -1,7 +1,7 @@
--- `exhibits::solution_in` meets its contract: the plume is read back from its number. Assumes nothing.
+-- `solutions::solution_in` meets its contract: the plume is read back from its number. Assumes nothing.
 use borrow.Author.Needs.{needs}
-use Rattle.exhibits.proofs.solution_in.Statement.{statement}
-use Rattle.exhibits.proofs.solution_in.Tie as tie
+use Rattle.solutions.proofs.solution_in.Statement.{statement}
+use Rattle.solutions.proofs.solution_in.Tie as tie
 
 plume-from-requires : tie.Need-plume-from-requires
 plume-from-requires c κs = search needs
