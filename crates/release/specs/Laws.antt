@@ -1,20 +1,20 @@
 -- What other layers use of areas and rates instead of their text.
 -- Assumes nothing.
-use Prim.Native.Nat.{ℕ, _+_, _-_, _*_, _/_, _≤_, _<_, _^_, min, zero-le}
-use native.Mathlib.Nat.{le-trans, le-refl, le-pred-of-lt, mul-le-mul, mul-le-mul-left, mul-le-mul-right}
+use Prim.Native.Nat.{ℕ, _+_, _-_, _*_, _/_, _≤_, _<_, _^_, min}
+use native.Mathlib.Nat.{le-refl, le-pred-of-lt, mul-le-mul, mul-le-mul-left, mul-le-mul-right}
 use native.Mathlib.Omega.{arith}
-use mathlib.Core.Path.{_≡_, refl, sym, subst}
+use mathlib.Core.Path.{_≡_, refl}
 use mathlib.Core.Bool.{Bool, true, false}
 use mathlib.Core.Logic.{⊎-elim}
-use lib.Dec.{leb, ltb}
-use borrow.Author.Tests.{le-leb, lt-leb, leb-true, leb-false, lt-ltb, le-ltb}
+use lib.Dec.{leb}
+use borrow.Author.Tests.{le-leb, lt-leb, leb-true, leb-false}
 use Rattle.release.specs.declared.Containment.{Containment}
 use Rattle.release.specs.declared.Dike.{Dike as DikeOf}
 use Rattle.release.specs.declared.Building.{Building as BuildingOf}
 use Rattle.release.specs.declared.ShedWithDoors.{ShedWithDoors as ShedOf}
 use Rattle.release.specs.declared.Containment.the-variants.{Open, Dike, Building, ShedWithDoors}
 use Rattle.search.specs.Laws.{lt-or-ge}
-use Rattle.release.specs.Pool.{fullArea, dikedArea, poolArea, gasRate, poolRate, held, spilt, ceilDiv, atMostTenMinutes}
+use Rattle.release.specs.Pool.{fullArea, dikedArea, poolArea, gasRate, poolRate, held, spilt, atMostTenMinutes}
 
 -- the closed form of a dike's pool, with nothing left of its cases
 abbrev pub closedForm : ℕ → ℕ → ℕ → ℕ
