@@ -2,11 +2,9 @@
 -- serve the proofs; what a text is stands in `comma/specs/Text.antt`, and the laws beside this file join the two.
 -- Assumes nothing.
 use Prim.Native.Nat.{ℕ, _+_}
-use mathlib.Core.List.{List, [], _∷_, _++_}
+use mathlib.Core.List.{List}
 use lib.ListN.{length}
 use lib.Seq.{sets}
-use Rattle.buffer.specs.Numbers.{twoBytes, fourBytes}
-use Rattle.fields.specs.declared.Fields.{Fields}
 use Rattle.comma.specs.Text.{Cards, cards, bad, bytesOf}
 use Rattle.read_lines.specs.declared.Lines.{Lines}
 use Rattle.read_lines.specs.declared.Lines.the-variants as lines
@@ -25,13 +23,3 @@ badLine (lines.Bad k) = k
 abbrev pub laidFrom : ℕ → Cards → List ℕ → List ℕ
 laidFrom at (cards xs) out = sets out at (bytesOf xs)
 laidFrom at (bad k) out = out
-
--- the parts of a card, as they are written
-unfoldable pub codeBytes : Fields → List ℕ
-codeBytes f = f .kind ∷ f .state ∷ f .ground ∷ f .containment ∷ []
-
-unfoldable pub amountBytes : Fields → List ℕ
-amountBytes f = fourBytes (f .cas) ++ (fourBytes (f .pounds) ++ fourBytes (f .area))
-
-unfoldable pub lastBytes : Fields → List ℕ
-lastBytes f = twoBytes (f .wall) ++ (twoBytes (f .heat) ++ fourBytes (f .number))

@@ -1,9 +1,9 @@
--- `read_lines::put_header` meets its contract: the length, the version and the count.
+-- `register_bytes::put_header` meets its contract: the length, the version and the count.
 -- Assumes nothing.
-use Rattle.read_lines.proofs.Ends.{header-end}
+use Rattle.register_bytes.proofs.Ends.{header-end}
 use borrow.Author.Needs.{needs}
-use Rattle.read_lines.proofs.put_header.Statement.{statement}
-use Rattle.read_lines.proofs.put_header.Tie as tie
+use Rattle.register_bytes.proofs.put_header.Statement.{statement}
+use Rattle.register_bytes.proofs.put_header.Tie as tie
 
 mul-whole : tie.Need-mul-whole
 mul-whole c = search needs

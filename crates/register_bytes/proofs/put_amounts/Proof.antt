@@ -1,9 +1,9 @@
--- `read_lines::put_amounts` meets its contract: three numbers of four bytes.
+-- `register_bytes::put_amounts` meets its contract: three numbers of four bytes.
 -- Assumes nothing.
-use Rattle.read_lines.proofs.Ends.{amounts-end}
+use Rattle.register_bytes.proofs.Ends.{amounts-end}
 use borrow.Author.Needs.{needs}
-use Rattle.read_lines.proofs.put_amounts.Statement.{statement}
-use Rattle.read_lines.proofs.put_amounts.Tie as tie
+use Rattle.register_bytes.proofs.put_amounts.Statement.{statement}
+use Rattle.register_bytes.proofs.put_amounts.Tie as tie
 
 put-four-requires : tie.Need-put-four-requires
 put-four-requires c κs = search needs

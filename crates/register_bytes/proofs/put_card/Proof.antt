@@ -1,9 +1,9 @@
--- `read_lines::put_card` meets its contract: its three parts.
+-- `register_bytes::put_card` meets its contract: its three parts.
 -- Assumes nothing.
-use Rattle.read_lines.proofs.Ends.{card-end}
+use Rattle.register_bytes.proofs.Ends.{card-end}
 use borrow.Author.Needs.{needs}
-use Rattle.read_lines.proofs.put_card.Statement.{statement}
-use Rattle.read_lines.proofs.put_card.Tie as tie
+use Rattle.register_bytes.proofs.put_card.Statement.{statement}
+use Rattle.register_bytes.proofs.put_card.Tie as tie
 
 put-codes-requires : tie.Need-put-codes-requires
 put-codes-requires c κs = search needs

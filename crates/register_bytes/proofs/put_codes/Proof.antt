@@ -1,11 +1,11 @@
--- `read_lines::put_codes` meets its contract: four stores.
+-- `register_bytes::put_codes` meets its contract: four stores.
 -- Assumes nothing.
 use lib.ListN.{length-set}
 use native.Mathlib.Omega.{arith}
-use Rattle.read_lines.proofs.Ends.{codes-end}
+use Rattle.register_bytes.proofs.Ends.{codes-end}
 use borrow.Author.Needs.{needs}
-use Rattle.read_lines.proofs.put_codes.Statement.{statement}
-use Rattle.read_lines.proofs.put_codes.Tie as tie
+use Rattle.register_bytes.proofs.put_codes.Statement.{statement}
+use Rattle.register_bytes.proofs.put_codes.Tie as tie
 
 slice-write-out : tie.Need-slice-write-out
 slice-write-out c = search needs

@@ -1,9 +1,9 @@
--- `read_lines::put_lasts` meets its contract: two numbers of two bytes and one of four.
+-- `register_bytes::put_lasts` meets its contract: two numbers of two bytes and one of four.
 -- Assumes nothing.
-use Rattle.read_lines.proofs.Ends.{lasts-end}
+use Rattle.register_bytes.proofs.Ends.{lasts-end}
 use borrow.Author.Needs.{needs}
-use Rattle.read_lines.proofs.put_lasts.Statement.{statement}
-use Rattle.read_lines.proofs.put_lasts.Tie as tie
+use Rattle.register_bytes.proofs.put_lasts.Statement.{statement}
+use Rattle.register_bytes.proofs.put_lasts.Tie as tie
 
 put-two-requires : tie.Need-put-two-requires
 put-two-requires c κs = search needs
