@@ -8,7 +8,8 @@ use mathlib.Core.List.{List, [], _∷_, _++_, map}
 use lib.ListN.{replicate}
 use Rattle.pieces.specs.Pieces.{pieces, closed}
 use Rattle.decimal.specs.Decimal.{digits, padded, readFrom}
-use Rattle.numerals.specs.Numerals.{skip, chop, bare, readOn, numberIn, hyphened, unhyphened, casIn, heatIn, valueIn}
+use Rattle.spaces.specs.Spaces.{skip, chop, bare}
+use Rattle.numerals.specs.Numerals.{readOn, numberIn, hyphened, unhyphened, casIn, heatIn, valueIn}
 use Rattle.fields.specs.declared.Fields.{Fields}
 use Rattle.refusals.specs.declared.Refusal.the-variants as refusal
 use Rattle.comma.specs.declared.Line.{Line}

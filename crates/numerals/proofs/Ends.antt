@@ -12,7 +12,8 @@ use Rattle.numerals.specs.declared.Form.{Form}
 use Rattle.numerals.specs.declared.Form.the-variants as form
 use Rattle.numerals.specs.declared.Number.{Number}
 use Rattle.numerals.specs.declared.Number.the-variants as number
-use Rattle.numerals.specs.Numerals.{bare, Within, readOn, numberIn, hyphened, unhyphened, casIn, minus, heatIn, valueOf, valueIn}
+use Rattle.spaces.specs.Spaces.{bare}
+use Rattle.numerals.specs.Numerals.{Within, readOn, numberIn, hyphened, unhyphened, casIn, minus, heatIn, valueOf, valueIn}
 use Rattle.numerals.specs.Laws.{number-within}
 use Rattle.numerals.proofs.Digits.{runs-on, runs-out}
 

@@ -1,3 +1,2 @@
-mod Spaces
 mod Digits
 mod Ends

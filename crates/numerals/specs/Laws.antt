@@ -22,7 +22,8 @@ use Rattle.numerals.specs.declared.Form.{Form}
 use Rattle.numerals.specs.declared.Form.the-variants as form
 use Rattle.numerals.specs.declared.Number.{Number}
 use Rattle.numerals.specs.declared.Number.the-variants as number
-use Rattle.numerals.specs.Numerals.{skip, keep, chop, bare, isDigit, numbered, readOn, numberIn, hyphened, unhyphened, casIn, minus, heatIn, valueOf, valueIn, mostOf, Within}
+use Rattle.spaces.specs.Spaces.{skip, keep, chop, bare}
+use Rattle.numerals.specs.Numerals.{isDigit, numbered, readOn, numberIn, hyphened, unhyphened, casIn, minus, heatIn, valueOf, valueIn, mostOf, Within}
 
 -- ---- no number is above what its field may hold
 

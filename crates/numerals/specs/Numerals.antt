@@ -10,31 +10,11 @@ use Rattle.search.specs.Rising.{both}
 use Rattle.search.specs.Places.{every}
 use Rattle.buffer.specs.Numbers.{byteAt}
 use Rattle.decimal.specs.Decimal.{readFrom}
+use Rattle.spaces.specs.Spaces.{bare}
 use Rattle.numerals.specs.declared.Form.{Form}
 use Rattle.numerals.specs.declared.Form.the-variants as form
 use Rattle.numerals.specs.declared.Number.{Number}
 use Rattle.numerals.specs.declared.Number.the-variants as number
-
--- ---- "allows spaces around a field"
-
--- without the spaces in front
-unfoldable pub skip : List ℕ → List ℕ
-skip [] = []
-skip (b ∷ rest) = elim (eqb b 32) [ true ↦ skip rest | false ↦ b ∷ rest ]
-
--- a byte in front of what is left of the bytes behind it; a space with nothing behind it goes too
-abbrev pub keep : ℕ → List ℕ → List ℕ
-keep b [] = elim (eqb b 32) [ true ↦ [] | false ↦ b ∷ [] ]
-keep b (c ∷ rest) = b ∷ (c ∷ rest)
-
--- without the spaces behind
-unfoldable pub chop : List ℕ → List ℕ
-chop [] = []
-chop (b ∷ rest) = keep b (chop rest)
-
--- without the spaces around it; those inside stay
-unfoldable pub bare : List ℕ → List ℕ
-bare field = chop (skip field)
 
 -- ---- "decimal"
 

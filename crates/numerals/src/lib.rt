@@ -1,8 +1,8 @@
 // The numbers of a comma line: whether a field is well formed, and what number it is.
 ghost use mathlib.Core.Path.{_≡_};
-ghost use Prim.Native.Nat.{_-_, _≤_};
-ghost use lib.ListN.{length, take, drop};
-ghost use Rattle.numerals.specs.Numerals.{skip, chop, bare, readOn, numberIn, unhyphened, casIn, heatIn, valueIn};
+ghost use Prim.Native.Nat.{_≤_};
+ghost use lib.ListN.{length};
+ghost use Rattle.numerals.specs.Numerals.{readOn, numberIn, unhyphened, casIn, heatIn, valueIn};
 
 // What a field is to hold: a decimal number of at most so much, a CAS number with hyphens, or a temperature.
 pub enum Form {
@@ -19,47 +19,6 @@ pub enum Number {
 
 // The largest number of four bytes.
 pub const FOUR_BYTES: u32 = 4_294_967_295;
-
-// Where a field starts, behind the spaces in front.
-fn start_of(field: &[u8]) -> usize
-    ensures { λ r. ⌜ drop r (now (field .entry)) ≡ skip (now (field .entry)) ⌝ }
-    ensures { λ r. ⌜ r ≤ length (now (field .entry)) ⌝ }
-{
-    let mut start = 0usize;
-    while start < field.len() {
-        if field[start] != b' ' {
-            return start;
-        }
-        start += 1;
-    }
-    start
-}
-
-// Where the bytes from a start on end, before the spaces behind.
-fn end_of(field: &[u8], start: usize) -> usize
-    requires { ⌜ start ≤ length (now field) ⌝ }
-    ensures { λ r. ⌜ take (r - start) (drop start (now (field .entry))) ≡ chop (drop start (now (field .entry))) ⌝ }
-    ensures { λ r. ⌜ start ≤ r ⌝ }
-    ensures { λ r. ⌜ r ≤ length (now (field .entry)) ⌝ }
-{
-    let mut end = field.len();
-    while start < end {
-        if field[end - 1] != b' ' {
-            return end;
-        }
-        end -= 1;
-    }
-    end
-}
-
-// A field without the spaces around it.
-fn trimmed(field: &[u8]) -> &[u8]
-    ensures { λ r. ⌜ now r ≡ bare (now (field .entry)) ⌝ }
-{
-    let start = start_of(field);
-    let end = end_of(field, start);
-    &field[start..end]
-}
 
 // Digits read on from a number. It stops at the first byte that is no digit, or once the number is too wide.
 fn read_on(digits: &[u8], so_far: u32, most: u32) -> Number
@@ -158,7 +117,7 @@ fn heat_in(text: &[u8]) -> Number
 pub fn value_in(form: Form, field: &[u8]) -> Number
     ensures { λ r. ⌜ r ≡ valueIn form (now (field .entry)) ⌝ }
 {
-    let text = trimmed(field);
+    let text = spaces::trimmed(field);
     match form {
         Form::Decimal(most) => number_in(text, most),
         Form::Cas => cas_in(text),

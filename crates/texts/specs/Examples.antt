@@ -7,7 +7,8 @@ use lib.ListN.{replicate}
 use Rattle.buffer.specs.Numbers.{twoBytes, fourBytes}
 use Rattle.decimal.specs.Decimal.{digits, padded, readFrom}
 use Rattle.pieces.specs.Pieces.{pieces, closed}
-use Rattle.numerals.specs.Numerals.{skip, chop, bare, readOn, numberIn, hyphened, unhyphened, casIn, heatIn, valueIn}
+use Rattle.spaces.specs.Spaces.{skip, chop, bare}
+use Rattle.numerals.specs.Numerals.{readOn, numberIn, hyphened, unhyphened, casIn, heatIn, valueIn}
 use Rattle.fields.specs.Layout.{fieldsOf}
 use Rattle.comma.specs.Line.{fieldsIn, tenthsForm, lastsIn, amountsIn, codesIn, lineOf}
 use Rattle.comma.specs.Text.{linesOf, cardsFrom, cardsIn, cardBytes, bytesOf, headerBytes, registerOf, badRoom, readInto}

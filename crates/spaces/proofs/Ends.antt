@@ -8,7 +8,7 @@ use mathlib.Core.List.{List, [], _∷_, _++_}
 use lib.ListN.{length, take, drop, getD, length-drop, drop-of-length-le}
 use lib.Seq.{drop-cons, take-suc, getD-drop, take-all}
 use borrow.Author.Tests.{eq-eqb, ne-eqb}
-use Rattle.numerals.specs.Numerals.{skip, keep, chop, bare}
+use Rattle.spaces.specs.Spaces.{skip, keep, chop, bare}
 
 -- ---- in front
 

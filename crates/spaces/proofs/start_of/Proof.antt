@@ -1,13 +1,13 @@
--- `numerals::start_of` meets its contract. The spaces passed change nothing; the measure is what is left of the field.
+-- `spaces::start_of` meets its contract. The spaces passed change nothing; the measure is what is left of the field.
 -- Assumes nothing.
 use mathlib.Core.Path.{_≡_}
 use Prim.Native.Nat.{_-_, _≤_}
 use lib.ListN.{length, drop}
-use Rattle.numerals.specs.Numerals.{skip}
-use Rattle.numerals.proofs.Spaces.{space-passed, space-stopped, space-end}
+use Rattle.spaces.specs.Spaces.{skip}
+use Rattle.spaces.proofs.Ends.{space-passed, space-stopped, space-end}
 use borrow.Author.Needs.{needs}
-use Rattle.numerals.proofs.start_of.Statement.{statement}
-use Rattle.numerals.proofs.start_of.Tie as tie
+use Rattle.spaces.proofs.start_of.Statement.{statement}
+use Rattle.spaces.proofs.start_of.Tie as tie
 
 abbrev Inv-loop : tie.InvT-loop
 Inv-loop field start₀ start = (skip field ≡ skip (drop start field)) × (start ≤ length field)

@@ -1,9 +1,9 @@
--- `numerals::trimmed` meets its contract: from the first byte that is no space up to the last.
+-- `spaces::trimmed` meets its contract: from the first byte that is no space up to the last.
 -- Assumes nothing.
-use Rattle.numerals.proofs.Spaces.{both-walked}
+use Rattle.spaces.proofs.Ends.{both-walked}
 use borrow.Author.Needs.{needs}
-use Rattle.numerals.proofs.trimmed.Statement.{statement}
-use Rattle.numerals.proofs.trimmed.Tie as tie
+use Rattle.spaces.proofs.trimmed.Statement.{statement}
+use Rattle.spaces.proofs.trimmed.Tie as tie
 
 start-of-requires : tie.Need-start-of-requires
 start-of-requires c κs = search needs

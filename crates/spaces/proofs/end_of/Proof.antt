@@ -1,13 +1,13 @@
--- `numerals::end_of` meets its contract. The spaces passed change nothing; the measure is the end itself.
+-- `spaces::end_of` meets its contract. The spaces passed change nothing; the measure is the end itself.
 -- Assumes nothing.
 use mathlib.Core.Path.{_≡_}
 use Prim.Native.Nat.{_-_, _≤_}
 use lib.ListN.{length, take, drop}
-use Rattle.numerals.specs.Numerals.{chop}
-use Rattle.numerals.proofs.Spaces.{all-there, byte-kept, space-dropped, none-kept}
+use Rattle.spaces.specs.Spaces.{chop}
+use Rattle.spaces.proofs.Ends.{all-there, byte-kept, space-dropped, none-kept}
 use borrow.Author.Needs.{needs}
-use Rattle.numerals.proofs.end_of.Statement.{statement}
-use Rattle.numerals.proofs.end_of.Tie as tie
+use Rattle.spaces.proofs.end_of.Statement.{statement}
+use Rattle.spaces.proofs.end_of.Tie as tie
 
 abbrev Inv-loop : tie.InvT-loop
 Inv-loop field start end₀ end =
