@@ -29,11 +29,8 @@ use Rattle.form.specs.declared.Standing.{Standing}
 use Rattle.form.specs.declared.Shape.{Shape}
 use Rattle.form.specs.declared.Shape.the-variants as shape
 use Rattle.form.specs.Form.{stateOf, groundOf, openOf, heldOf, heatFits, shapedHeat, shapedHeld, shapedState, shapedBlank, shapeOf, blank}
-use Rattle.form.specs.Inverse.{no-held}
+use Rattle.form.specs.Inverse.{state-is, no-held}
 use Rattle.conditions.specs.Conditions.{unlisted, filled, badToxic, badFlammable, badForm}
-
-pub state-is : {a b : State} → stateByte.Is a ≡ stateByte.Is b → a ≡ b
-state-is e = cc
 
 -- what the form refuses
 abbrev pub isRefused : Shape → Bool

@@ -53,10 +53,10 @@ use Rattle.form.specs.Form.{stateOf, heldOf}
 use Rattle.ranges.specs.Ranges.{signed, isOutOfRange}
 use Rattle.meaning.specs.Reading.{isListed, substanceOf}
 use Rattle.meaning.specs.States.{by-state}
-use Rattle.form.specs.Inverse.{Stands}
+use Rattle.form.specs.Inverse.{Stands, state-is}
 use Rattle.form.specs.Same.{held-bytes}
 use Rattle.conditions.specs.Conditions.{anyOf, ofGas, ofLiquid, columnRead, cellRead, withoutData, aboveFifty, mismatched}
-use Rattle.conditions.specs.Form.{state-is, no-state}
+use Rattle.conditions.specs.Form.{no-state}
 use Rattle.conditions.specs.Vessel.{cardWith, cardFrom}
 use Rattle.conditions.specs.Substances.{Seen, a-gas, a-liquid, neither, seen}
 

@@ -25,11 +25,10 @@ use Rattle.form.specs.declared.GroundByte.the-variants as groundByte
 use Rattle.form.specs.declared.Held.the-variants as held
 use Rattle.form.specs.declared.Standing.{Standing}
 use Rattle.form.specs.Form.{stateOf, groundOf, openOf, heldOf}
-use Rattle.form.specs.Inverse.{Stands, held-is, not-held, where-zero, no-held}
+use Rattle.form.specs.Inverse.{Stands, state-is, ground-is, held-is, not-held, where-zero, no-held}
 use Rattle.ranges.specs.Ranges.{tenthsOf}
 use Rattle.meaning.specs.Reading.{substanceOf}
 use Rattle.conditions.specs.Conditions.{stateIn, groundIn, heldIn, toxicCard}
-use Rattle.conditions.specs.Form.{state-is}
 
 -- the meaning of a toxic card's fields, with its substance and its temperature or concentration
 abbrev pub cardWith : Fields → Standing → Toxic → Tenths → ToxicCard
@@ -58,9 +57,6 @@ state-in b s e = go (eqb b 1) (eqb b 2) (eqb b 3) (eqb b 4) (eqb b 5) e
     go false false false true u x = state-is x
     go false false false false true x = state-is x
     go false false false false false x = let z : _≡_ {A = ℕ} 0 1 = cc in clash z
-
-ground-is : {a b : Ground} → groundByte.Is a ≡ groundByte.Is b → a ≡ b
-ground-is e = cc
 
 ground-in : (b : ℕ) (g : Ground) → groundOf b ≡ groundByte.Is g → groundIn b ≡ g
 unfolding groundOf groundIn

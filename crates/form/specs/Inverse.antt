@@ -8,6 +8,7 @@ use mathlib.Core.Bool.{Bool, true, false}
 use lib.Dec.{eqb}
 use borrow.Author.Tests.{eqb-true, ne-eqb}
 use Rattle.search.specs.Laws.{clash}
+use Rattle.dispersion.specs.declared.Ground.{Ground}
 use Rattle.release.specs.declared.Containment.{Containment}
 use Rattle.release.specs.declared.Containment.the-variants.{Building, ShedWithDoors}
 use Rattle.release.specs.Laws.{Looser, open-open, dike-dike, building-building, shed-shed}
@@ -119,10 +120,17 @@ no-held b area wall h = passed-over b 1 _ (λ e. omega arith) ∙ go (eqb wall 0
     go true = passed-over b 2 _ (λ e. omega arith) ∙ (passed-over b 0 _ (λ e. omega arith) ∙ passed-over b 3 _ (λ e. omega arith))
     go false = refl
 
--- two containments from the same byte, in the order of document 01's counterparts
+-- equal readings are of the same state, ground or containment
+pub state-is : {a b : State} → stateByte.Is a ≡ stateByte.Is b → a ≡ b
+state-is e = cc
+
+pub ground-is : {a b : Ground} → groundByte.Is a ≡ groundByte.Is b → a ≡ b
+ground-is e = cc
+
 pub held-is : {a b : Containment} → held.Is a ≡ held.Is b → a ≡ b
 held-is e = cc
 
+-- two containments from the same byte, in the order of document 01's counterparts
 pub not-held : {A : Type 0} {c : Containment} → held.Filled ≡ held.Is c → A
 not-held e = clash (cc)
 

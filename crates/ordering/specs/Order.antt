@@ -12,12 +12,10 @@ use Rattle.search.specs.Laws.{clash}
 use Rattle.search.specs.Places.{either}
 use Rattle.units.specs.declared.Reading.{Reading}
 use Rattle.units.specs.declared.Reading.the-variants as reading
-use Rattle.dispersion.specs.declared.Ground.{Ground}
 use Rattle.dispersion.specs.Tables.{readingOf}
 use Rattle.dispersion.specs.Laws.{reading-mono}
 use Rattle.blast.specs.Blast.{blastReading}
 use Rattle.blast.specs.Laws.{blast-mono}
-use Rattle.which_table.specs.declared.State.{State}
 use Rattle.scenario.specs.declared.ToxicCard.{ToxicCard}
 use Rattle.scenario.specs.declared.Scenario.{Scenario}
 use Rattle.scenario.specs.declared.Planned.{Planned}
@@ -27,15 +25,13 @@ use Rattle.scenario.specs.Order.{Fuller, plan-faster}
 use Rattle.fields.specs.declared.Fields.{Fields}
 use Rattle.buffer.specs.Numbers.{byteAt, twoAt, fourAt}
 use Rattle.fields.specs.Layout.{fieldsOf}
-use Rattle.form.specs.declared.StateByte.the-variants as stateByte
-use Rattle.form.specs.declared.GroundByte.the-variants as groundByte
 use Rattle.meaning.specs.declared.FlammableCard.{FlammableCard}
 use Rattle.refusals.specs.declared.Refusal.{Refusal}
 use Rattle.refusals.specs.declared.Refusal.the-variants as refusal
 use Rattle.meaning.specs.declared.Meaning.{Meaning}
 use Rattle.meaning.specs.declared.Meaning.the-variants as meaning
 use Rattle.form.specs.Form.{stateOf, groundOf, heldOf, shapeOf}
-use Rattle.form.specs.Inverse.{held-looser}
+use Rattle.form.specs.Inverse.{state-is, ground-is, held-looser}
 use Rattle.meaning.specs.Reading.{badNumber, meaningIf, shaped, meaningOf}
 use Rattle.meaning.specs.States.{same-entry, same-tenths}
 use Rattle.meaning.specs.Inverse.{ToxicFrom, FlammableFrom, toxic-from, flammable-from}
@@ -169,12 +165,6 @@ route-is x last e = ap routeIn (answer-first x last e)
 pub table-is : (x : List ℕ) (last : ℕ) {a : Answer} → answerOf x last ≡ answered.Is a → tableOf x ≡ a .table
 unfolding tableOf
 table-is x last e = ap tableIn (answer-first x last e)
-
-ground-is : {a b : Ground} → groundByte.Is a ≡ groundByte.Is b → a ≡ b
-ground-is e = cc
-
-state-is : {a b : State} → stateByte.Is a ≡ stateByte.Is b → a ≡ b
-state-is e = cc
 
 -- the same in fields, one for each of the bytes' claims
 record SameFields (f g : Fields) : Type 0 where

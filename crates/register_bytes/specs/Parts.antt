@@ -5,7 +5,7 @@ use mathlib.Core.List.{List, [], _∷_, _++_}
 use Rattle.buffer.specs.Numbers.{twoBytes, fourBytes}
 use Rattle.fields.specs.declared.Fields.{Fields}
 
--- the parts of a card, as they are written
+-- bytes 0 to 3; then CAS number, pounds and area; then wall, temperature and number
 unfoldable pub codeBytes : Fields → List ℕ
 codeBytes f = f .kind ∷ f .state ∷ f .ground ∷ f .containment ∷ []
 

@@ -58,14 +58,16 @@ poolRate lf tcf area true = ceilDiv (14 * (lf * tcf * area)) 1_000_000_000
 unfoldable pub atMostTenMinutes : ℕ → ℕ → Bool
 atMostTenMinutes pounds rate = leb (1000 * pounds) (10 * rate)
 
--- "unless diked with a full area above the diked area": whether the pool is larger than this containment's dike
+-- "unless diked with a full area above the diked area": whether the pool is larger than this containment's dike. A floor is no dike, of a
+-- building or of a shed with doors.
 abbrev pub beyondDike : ℕ → ℕ → Containment → Bool
 beyondDike pounds df Open = false
 beyondDike pounds df (Building b) = false
 beyondDike pounds df (ShedWithDoors s) = false
 beyondDike pounds df (Dike d) = ltb (d .area .0) (fullArea pounds df)
 
--- "in a building"; document 02, A5: "Containment 3 is a building without the factor"
+-- "in a building", where both factors hold. Document 02, A5: "Containment 3 is a building without the factor: a gas leaves at pounds / 10,
+-- a pool has .. no 0.1."
 abbrev pub isBuilding : Containment → Bool
 isBuilding Open = false
 isBuilding (Dike d) = false
