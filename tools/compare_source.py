@@ -3,7 +3,7 @@
 
     python3 tools/compare_source.py GUIDANCE [EXHIBITS]
 
-GUIDANCE is the text of EPA 550-B-99-009 (source document 001); every cell of data/table01.tsv to table13.tsv is
+GUIDANCE is the text of EPA 550-B-99-009 (source document 001); every cell of data/table01.tsv to table25.tsv is
 compared with it. EXHIBITS is the folder with b1.tsv to b4.tsv; data/'s files of the same names are compared
 with those. Exits 1 on any disagreement.
 
@@ -33,7 +33,7 @@ ROW = {
 
 # The heading lines of a table, as patterns; a group holds what the header line of data/ repeats.
 HEADING = {
-    "neutral": [r"<b>Release Rate/Endpoint .*</b>\t<b>Distance to Endpoint .*</b>"],
+    "neutral": [r"(?:<b>)?Release Rate/Endpoint [^\t]*\t(?:<b>)?Distance to Endpoint [^\t]*"],
     "dense": [r"Release Rate .*\tToxic Endpoint .*", rf"\t({NUMBER}(?:\t{NUMBER}){{15}})", r"\tDistance \(Miles\)\t+"],
     "chemical": [r"Release Rate .*\tDistance to Endpoint \(miles\)\t", r"\tRural\tUrban"],
     "flammable": [rf"Quantity in Cloud \(pounds\)\t\t({NUMBER}(?:\t{NUMBER}){{10}})", r"CAS No\.\tChemical Name\tDistance .*"],
@@ -43,11 +43,18 @@ HEADER_START = {"neutral": ["range", "distance"], "dense": ["rate"], "chemical":
                 "flammable": ["cas", "name"]}
 
 # How many rows each table has: a row that both readings lost would show here.
-ROWS = {1: 49, 2: 49, 3: 49, 4: 49, 5: 27, 6: 27, 7: 27, 8: 27, 9: 50, 10: 50, 11: 44, 12: 44, 13: 63}
+ROWS = {1: 49, 2: 49, 3: 49, 4: 49, 5: 27, 6: 27, 7: 27, 8: 27, 9: 50, 10: 50, 11: 44, 12: 44, 13: 63,
+        14: 49, 15: 49, 16: 49, 17: 49, 18: 27, 19: 27, 20: 27, 21: 27, 22: 42, 23: 42, 24: 44, 25: 44}
+
+# The lines that say what is printed below a rate: "<10" above the row of 10, so they are no rows and data/ leaves
+# them out. Left out means looked for: each has to be there once, with these cells, and no other table has one.
+NO_ROW = {22: ["<10\t<0.1*\t<0.1*"], 23: ["<8\t<0.1*\t<0.1*"]}
 
 
 def kind_of(table):
-    return "neutral" if table <= 4 else "dense" if table <= 8 else "chemical" if table <= 12 else "flammable"
+    """Each of Tables 14 to 25 has the form of the table thirteen below it."""
+    form = table if table <= 13 else table - 13
+    return "neutral" if form <= 4 else "dense" if form <= 8 else "chemical" if form <= 12 else "flammable"
 
 
 def text_of(table, guidance):
@@ -68,7 +75,7 @@ def printed(table, guidance, faults):
     header = list(HEADER_START[kind])
     repeated = set()
     for line in ROW[kind].sub("", text).splitlines():
-        if "\t" not in line:
+        if "\t" not in line or line in NO_ROW.get(table, []):
             continue
         matches = [match for match in (re.fullmatch(pattern, line) for pattern in HEADING[kind]) if match]
         if not matches:
@@ -122,9 +129,23 @@ def compare_sum(table, guidance, faults):
         faults.append(f"table {table}: the figures of data/ sum to {ours}, those of the guidance to {source}")
 
 
+def compare_no_rows(table, guidance, faults):
+    """What a table prints below its first row: the lines of NO_ROW, each once, and the bound is the first row's rate."""
+    found = re.findall(r"^<\d.*$", text_of(table, guidance), re.M)
+    expected = NO_ROW.get(table, [])
+    if found != expected:
+        faults.append(f"table {table}: below its first row the guidance prints {found}, not {expected}")
+    if any(guidance.splitlines().count(line) != 1 for line in expected):
+        faults.append(f"table {table}: the guidance has {expected} elsewhere too")
+    first = held(f"table{table:02d}.tsv")[1][0]
+    if any(line.split("\t")[0] != f"<{first}" for line in expected):
+        faults.append(f"table {table}: what is printed below {first} names another rate")
+
+
 def compare_table(table, guidance, faults):
     name = f"table{table:02d}.tsv"
     ours, theirs = held(name), printed(table, guidance, faults)
+    compare_no_rows(table, guidance, faults)
     if len(theirs) - 1 != ROWS[table]:
         faults.append(f"table {table}: {len(theirs) - 1} rows found in the guidance, not {ROWS[table]}")
     compare_sum(table, guidance, faults)

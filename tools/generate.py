@@ -45,16 +45,22 @@ DISTANCE_READ = {
     "stars": FARTHEST,
 }
 
-# The marks that each table prints, by its own footnotes: "*" is a footnote of "<0.1*" in Tables 9 and 10, and stands
-# alone for more than 25 miles in 11 and 12, so a mark of another table is a fault.
+# The marks that each table prints, by its own footnotes: "*" is a footnote of "<0.1*" in Tables 9, 10 and 22 to 25, and
+# stands alone for more than 25 miles in 11, 12 and 18 to 21, so a mark of another table is a fault.
 NEUTRAL_MARKS = {">25*": "more"}
 DENSE_MARKS = {"#": "hash", "<0.1": "less", ">25": "more", "*": "star"}
 AMMONIA_MARKS = {"<0.1*": "less", "**": "stars"}
 CHLORINE_MARKS = {"*": "star"}
+LIKELY_CHEMICAL_MARKS = {"<0.1*": "less"}
 
 NEUTRAL_TABLES = (1, 2, 3, 4)
 DENSE_TABLES = (5, 6, 7, 8)
 CHEMICAL_TABLES = (9, 10, 11, 12)
+
+# The tables of likely scenarios, each thirteen above the one that is printed and read like it.
+LIKELY_NEUTRAL_TABLES = (14, 15, 16, 17)
+LIKELY_DENSE_TABLES = (18, 19, 20, 21)
+LIKELY_CHEMICAL_TABLES = (22, 23, 24, 25)
 
 GAS_COUNT = 23
 LIQUID_COUNT = 51
@@ -253,7 +259,7 @@ def table_file(number):
 
 
 def read_neutral(number):
-    """One of Tables 1 to 4: closed ranges that join without a gap from 0 on, and one open range above them."""
+    """One of Tables 1 to 4 or 14 to 17: closed ranges that join without a gap from 0 on, and one open range above them."""
     rows = read_records(table_file(number), ["range", "distance"], None)
     closed, upto = [], 0
     for where, cells in rows[:-1]:
@@ -270,7 +276,7 @@ def read_neutral(number):
 
 
 def read_dense(number):
-    """One of Tables 5 to 8: rates down, endpoints across."""
+    """One of Tables 5 to 8 or 18 to 21: rates down, endpoints across."""
     name = table_file(number)
     header, rows = read_rows(name)
     expect(header[0] == "rate", f"data/{name}", "the first column is not rate")
@@ -285,9 +291,13 @@ def read_dense(number):
 
 
 def read_chemical(number):
-    """One of Tables 9 to 12: rates down, rural and urban. Only the urban column of Table 10 has blanks."""
-    rural_marks = AMMONIA_MARKS if number in (9, 10) else CHLORINE_MARKS
-    urban_marks = {**rural_marks, "": "blank"} if number == 10 else rural_marks
+    """One of Tables 9 to 12 or 22 to 25: rates down, rural and urban. Only the urban columns of Tables 10 and 22 to 25 have
+    blanks."""
+    if number in LIKELY_CHEMICAL_TABLES:
+        rural_marks = LIKELY_CHEMICAL_MARKS
+    else:
+        rural_marks = AMMONIA_MARKS if number in (9, 10) else CHLORINE_MARKS
+    urban_marks = {**rural_marks, "": "blank"} if number in (10, *LIKELY_CHEMICAL_TABLES) else rural_marks
     lines = [
         (scaled(cells["rate"], 0, where), read_mark(cells["rural"], rural_marks, where),
          read_mark(cells["urban"], urban_marks, where))
@@ -471,6 +481,17 @@ def printed_b3(solutions):
                          "1.5 m/s, DF,\n-- worst-case plume", "b3", "SolutionLine", items)])
 
 
+def sources_of(tables):
+    """The files of some tables whose numbers follow each other."""
+    numbers = list(tables)
+    return f"data/{table_file(numbers[0])} to {table_file(numbers[-1])}"
+
+
+def titles_of(tables):
+    numbers = list(tables)
+    return f"Reference Tables {numbers[0]} to {numbers[-1]}"
+
+
 def printed_neutral(tables):
     marks = [mark for table in tables.values() for _, _, mark in table["closed"]]
     marks += [table["above"][1] for table in tables.values()]
@@ -482,8 +503,8 @@ def printed_neutral(tables):
         definitions.append(antt_definition(f"Table {number}: the range of rate / endpoint, the distance",
                                            f"table{number}", "Range", items))
     return antt_file(
-        "data/table01.tsv to table04.tsv",
-        "Reference Tables 1 to 4 as printed. Bounds in tenths of (lbs/min)/(mg/L), distances in hundredths of a mile.",
+        sources_of(tables),
+        f"{titles_of(tables)} as printed. Bounds in tenths of (lbs/min)/(mg/L), distances in hundredths of a mile.",
         [LIST_IMPORT, forms_import(marks_used(marks) + ["Range", "closed", "above"])], definitions)
 
 
@@ -498,8 +519,8 @@ def printed_dense(tables):
             antt_definition(f"Table {number}: the distances, row by row", f"table{number}", "(List Mark)", rows),
         ]
     return antt_file(
-        "data/table05.tsv to table08.tsv",
-        "Reference Tables 5 to 8 as printed. Rates in lbs/min, endpoints in hundred-thousandths of mg/L, distances in\n"
+        sources_of(tables),
+        f"{titles_of(tables)} as printed. Rates in lbs/min, endpoints in hundred-thousandths of mg/L, distances in\n"
         "-- hundredths of a mile.",
         [NAT_IMPORT, LIST_IMPORT, forms_import(["Mark"] + marks_used(marks))], definitions)
 
@@ -513,8 +534,8 @@ def printed_chemical(tables):
         definitions.append(antt_definition(f"Table {number}: the rate, the rural and the urban distance",
                                            f"table{number}", "Line", items))
     return antt_file(
-        "data/table09.tsv to table12.tsv",
-        "Reference Tables 9 to 12 as printed. Rates in lbs/min, distances in hundredths of a mile.",
+        sources_of(tables),
+        f"{titles_of(tables)} as printed. Rates in lbs/min, distances in hundredths of a mile.",
         [LIST_IMPORT, forms_import(marks_used(marks) + ["Line", "line"])], definitions)
 
 
@@ -704,21 +725,30 @@ def neutral_arrays(tables):
             rt_array(f"Table {number}: the entries in use in hundredths of a mile, the last for the open range.",
                      f"RANGE_{number}", 16, column_in_use(marks)),
         ]
-    return rt_file("data/table01.tsv to table04.tsv", arrays)
+    return rt_file(sources_of(tables), arrays)
+
+
+def alike(tables):
+    """The first of some dense tables, where all have its rates and endpoints."""
+    first, where = next(iter(tables.values())), sources_of(tables)
+    expect(all(table["rates"] == first["rates"] for table in tables.values()), where, "they differ in their rates")
+    expect(all(table["endpoints"] == first["endpoints"] for table in tables.values()), where, "they differ in their endpoints")
+    return first
+
+
+def column_cuts(title, first):
+    return rt_array(f"{title}: the largest endpoint that reads each column but the last, in hundred-thousandths of mg/L.",
+                    "COLUMN_UPTO", 64, endpoint_cuts(first["endpoints"]))
 
 
 def dense_rows(tables):
-    where = "data/table05.tsv to table08.tsv"
-    first = tables[DENSE_TABLES[0]]
-    expect(all(table["rates"] == first["rates"] for table in tables.values()), where, "they differ in their rates")
-    expect(all(table["endpoints"] == first["endpoints"] for table in tables.values()), where, "they differ in their endpoints")
+    first = alike(tables)
     rows = flat(entries_in_use([[distance_read(mark) for mark in row] for row in table["marks"]]) for table in tables.values())
     arms = [(f"Table {DENSE_TABLES[place // DENSE_ROW_COUNT]}" if place % DENSE_ROW_COUNT == 0 else None, place, str(row))
             for place, row in enumerate(rows)]
-    return rt_file(where, [
+    return rt_file(sources_of(tables), [
         *rate_arrays("Tables 5 to 8", "ROW_UPTO", "LAST_ROW", first["rates"]),
-        rt_array("Tables 5 to 8: the largest endpoint that reads each column but the last, in hundred-thousandths of mg/L.",
-                 "COLUMN_UPTO", 64, endpoint_cuts(first["endpoints"])),
+        column_cuts("Tables 5 to 8", first),
         rt_match(f"Tables 5 to 8: the entries in use in hundredths of a mile, {DENSE_ROW_COUNT} rows a table.",
                  f"row_of(row: usize) -> [u16; {DENSE_COLUMN_COUNT}]", "r ≡ getD denseRows row noRow", "row", arms,
                  f"[0; {DENSE_COLUMN_COUNT}]"),
@@ -736,17 +766,47 @@ def dense_proof():
         f"sym (List·getD-eq-default denseRows noRow (beyond _ {DENSE_ROW_COUNT * len(DENSE_TABLES)} (c .match .rest)))")
 
 
+def both_columns(number, table):
+    return [
+        rt_array(f"Table {number}: the rural entries in use in hundredths of a mile.", f"RURAL_{number}", 16,
+                 column_in_use([rural for _, rural, _ in table])),
+        rt_array(f"Table {number}: the urban entries in use in hundredths of a mile.", f"URBAN_{number}", 16,
+                 column_in_use([urban for _, _, urban in table])),
+    ]
+
+
 def chemical_arrays(tables):
     arrays = []
     for number, table in tables.items():
-        arrays += [
-            *rate_arrays(f"Table {number}", f"UPTO_{number}", f"LAST_{number}", [rate for rate, _, _ in table]),
-            rt_array(f"Table {number}: the rural entries in use in hundredths of a mile.", f"RURAL_{number}", 16,
-                     column_in_use([rural for _, rural, _ in table])),
-            rt_array(f"Table {number}: the urban entries in use in hundredths of a mile.", f"URBAN_{number}", 16,
-                     column_in_use([urban for _, _, urban in table])),
-        ]
-    return rt_file("data/table09.tsv to table12.tsv", arrays)
+        arrays += [*rate_arrays(f"Table {number}", f"UPTO_{number}", f"LAST_{number}", [rate for rate, _, _ in table]),
+                   *both_columns(number, table)]
+    return rt_file(sources_of(tables), arrays)
+
+
+def row_rates(what, name, rates):
+    return rt_array(f"{what}: the rates of the rows, in thousandths of a pound per minute.", name, 64,
+                    [1000 * rate for rate in rates])
+
+
+def likely_dense_columns(tables):
+    """The entries in use of Tables 18 to 21 column by column, since two neighbouring rows of one column are read."""
+    first, columns = alike(tables), []
+    for table in tables.values():
+        columns += zip(*entries_in_use([[distance_read(mark) for mark in row] for row in table["marks"]]))
+    return rt_file(sources_of(tables), [
+        row_rates("Tables 18 to 21", "RATE", first["rates"]),
+        column_cuts("Tables 18 to 21", first),
+        rt_array(f"Tables 18 to 21: the entries in use in hundredths of a mile, {DENSE_COLUMN_COUNT} columns a table, "
+                 f"{DENSE_ROW_COUNT} rows a column.", "COLUMNS", 16, flat(columns), DENSE_ROW_COUNT),
+    ])
+
+
+def likely_chemical_arrays(tables):
+    arrays = []
+    for number, table in tables.items():
+        arrays += [row_rates(f"Table {number}", f"RATE_{number}", [rate for rate, _, _ in table]),
+                   *both_columns(number, table)]
+    return rt_file(sources_of(tables), arrays)
 
 
 def blast_tables(quantities, flammables):
@@ -782,6 +842,9 @@ def generated_files():
     neutral = {number: read_neutral(number) for number in NEUTRAL_TABLES}
     dense = {number: read_dense(number) for number in DENSE_TABLES}
     chemical = {number: read_chemical(number) for number in CHEMICAL_TABLES}
+    likely_neutral = {number: read_neutral(number) for number in LIKELY_NEUTRAL_TABLES}
+    likely_dense = {number: read_dense(number) for number in LIKELY_DENSE_TABLES}
+    likely_chemical = {number: read_chemical(number) for number in LIKELY_CHEMICAL_TABLES}
     quantities, flammables = read_flammables()
     return {
         "crates/exhibits/specs/PrintedB1.antt": printed_b1(gases),
@@ -799,6 +862,12 @@ def generated_files():
         "crates/dense/proofs/tables/row_of/Proof.antt": dense_proof(),
         "crates/dispersion/specs/PrintedChemical.antt": printed_chemical(chemical),
         "crates/dispersion/src/tables.rt": chemical_arrays(chemical),
+        "crates/likely_neutral/specs/PrintedNeutral.antt": printed_neutral(likely_neutral),
+        "crates/likely_neutral/src/tables.rt": neutral_arrays(likely_neutral),
+        "crates/likely_dense/specs/PrintedDense.antt": printed_dense(likely_dense),
+        "crates/likely_dense/src/tables.rt": likely_dense_columns(likely_dense),
+        "crates/likely_tables/specs/PrintedChemical.antt": printed_chemical(likely_chemical),
+        "crates/likely_tables/src/tables.rt": likely_chemical_arrays(likely_chemical),
         "crates/blast/specs/Printed13.antt": printed_13(quantities, flammables),
         "crates/blast/src/tables.rt": blast_tables(quantities, flammables),
         "crates/blast/proofs/tables/place_of/Proof.antt": blast_proof(flammables),

@@ -1,0 +1,2 @@
+pub mod PrintedDense
+pub mod Columns

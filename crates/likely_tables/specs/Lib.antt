@@ -1,0 +1,2 @@
+pub mod PrintedChemical
+pub mod LikelyTables
