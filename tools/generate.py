@@ -162,9 +162,9 @@ def plume(text, where):
 # ---- The exhibits ----
 
 
-def read_substance(cells, factors, table, where):
-    """What B-1, B-2 and B-3 print of a substance; `factors` names the column of each liquid factor that it has, `table` the
-    column that says neutral or dense."""
+def read_substance(cells, factors, table, alternative, where):
+    """What B-1, B-2 and B-3 print of a substance; `factors` names the column of each liquid factor that it has, `table` and
+    `alternative` those that say neutral or dense in the worst case and in the alternative one."""
     expect_no_blank(cells, where)
     substance = {
         "cas": cas_number(cells["cas"], where),
@@ -174,6 +174,7 @@ def read_substance(cells, factors, table, where):
         "lfb": 0,
         "df": factor(cells["df"], DENSITY_FACTOR_DECIMALS, DENSITY_FACTOR_LIMIT, where),
         "plume": plume(cells[table], where),
+        "alternative": plume(cells[alternative], where),
     }
     for name, column in factors.items():
         substance[name] = factor(cells[column], LIQUID_FACTOR_DECIMALS, LIQUID_FACTOR_LIMIT, where)
@@ -181,15 +182,16 @@ def read_substance(cells, factors, table, where):
 
 
 def read_gases():
+    """The lines of Exhibit B-1, which has one column for both cases."""
     columns = ["cas", "name", "molecular_weight", "endpoint", "lfb", "df", "reference_table"]
-    return [read_substance(cells, {"lfb": "lfb"}, "reference_table", where)
+    return [read_substance(cells, {"lfb": "lfb"}, "reference_table", "reference_table", where)
             for where, cells in read_records("b1.tsv", columns, GAS_COUNT)]
 
 
 def read_liquids():
     columns = ["cas", "name", "molecular_weight", "vapor_pressure_mmhg", "endpoint", "lfa", "lfb", "df",
                "worst_case_table", "alternative_case_table"]
-    return [read_substance(cells, {"lfa": "lfa", "lfb": "lfb"}, "worst_case_table", where)
+    return [read_substance(cells, {"lfa": "lfa", "lfb": "lfb"}, "worst_case_table", "alternative_case_table", where)
             for where, cells in read_records("b2.tsv", columns, LIQUID_COUNT)]
 
 
@@ -198,7 +200,7 @@ def read_solutions():
     columns = ["cas", "name", "endpoint", "percent", "lfa_1_5", "lfa_3_0", "df", "worst_case_table", "alternative_case_table"]
     solutions = []
     for where, cells in read_records("b3.tsv", columns, SOLUTION_COUNT):
-        solution = read_substance(cells, {"lfa": "lfa_1_5"}, "worst_case_table", where)
+        solution = read_substance(cells, {"lfa": "lfa_1_5"}, "worst_case_table", "alternative_case_table", where)
         solution["percent"] = factor(cells["percent"], PERCENT_DECIMALS, PERCENT_LIMIT, where)
         above = solutions[-1] if solutions else None
         if above and above["cas"] == solution["cas"]:
@@ -429,25 +431,29 @@ def variants_import(enum, used, variants, specs="Rattle.exhibits.specs")
     return f"use {specs}.declared.{enum}.the-variants.{{{', '.join(names)}}}"
 
 
+def plumes_used(substances):
+    return {x[column] for x in substances for column in ("plume", "alternative")}
+
+
 def printed_b1(gases):
     items = [(x["name"], f"gas {x['cas']} {x['endpoint']} {x['lfb']} {x['df']} {x['plume']}") for x in gases]
     return antt_file(
         "data/b1.tsv", "Exhibit B-1 as printed. Endpoints in hundred-thousandths of mg/L, LFB in millionths, DF in hundredths.",
         [LIST_IMPORT, printed_import("exhibits", ["GasLine", "gas"]),
-         variants_import("Plume", {x["plume"] for x in gases}, ("Neutral", "Dense"))],
-        [antt_definition("Exhibit B-1, toxic gases, in the printed order: CAS number, endpoint, LFB, DF, worst-case plume",
+         variants_import("Plume", plumes_used(gases), ("Neutral", "Dense"))],
+        [antt_definition("Exhibit B-1, toxic gases, in the printed order: CAS number, endpoint, LFB, DF, plume",
                          "b1", "GasLine", items)])
 
 
 def printed_b2(liquids):
-    items = [(x["name"], f"liquid {x['cas']} {x['endpoint']} {x['lfa']} {x['lfb']} {x['df']} {x['plume']}")
+    items = [(x["name"], f"liquid {x['cas']} {x['endpoint']} {x['lfa']} {x['lfb']} {x['df']} {x['plume']} {x['alternative']}")
              for x in liquids]
     return antt_file(
         "data/b2.tsv", "Exhibit B-2 as printed. Endpoints in hundred-thousandths of mg/L, LFA and LFB in millionths, DF in hundredths.",
         [LIST_IMPORT, printed_import("exhibits", ["LiquidLine", "liquid"]),
-         variants_import("Plume", {x["plume"] for x in liquids}, ("Neutral", "Dense"))],
-        [antt_definition("Exhibit B-2, toxic liquids, in the printed order: CAS number, endpoint, LFA, LFB, DF, worst-case plume",
-                         "b2", "LiquidLine", items)])
+         variants_import("Plume", plumes_used(liquids), ("Neutral", "Dense"))],
+        [antt_definition("Exhibit B-2, toxic liquids, in the printed order: CAS number, endpoint, LFA, LFB, DF,\n"
+                         "-- worst-case plume, alternative-case plume", "b2", "LiquidLine", items)])
 
 
 CELL_VARIANTS = {"LFB": "Lfb", "ND": "NoData"}
@@ -469,16 +475,17 @@ def printed_b4(factors):
 
 
 def printed_b3(solutions):
-    items = [(x["name"], f"solution {x['cas']} {x['percent']} {x['endpoint']} {x['lfa']} {x['df']} {x['plume']}")
+    items = [(x["name"],
+              f"solution {x['cas']} {x['percent']} {x['endpoint']} {x['lfa']} {x['df']} {x['plume']} {x['alternative']}")
              for x in solutions]
     return antt_file(
         "data/b3.tsv",
         "Exhibit B-3 as printed. Concentrations in tenths of a percent, endpoints in hundred-thousandths of mg/L, LFA in\n"
         "-- millionths, DF in hundredths.",
         [LIST_IMPORT, "use Rattle.exhibits.specs.Printed.{SolutionLine, solution}",
-         variants_import("Plume", {x["plume"] for x in solutions}, ("Neutral", "Dense"), "Rattle.exhibits.specs")],
+         variants_import("Plume", plumes_used(solutions), ("Neutral", "Dense"), "Rattle.exhibits.specs")],
         [antt_definition("Exhibit B-3, water solutions and oleum, in the printed order: CAS number, concentration, endpoint, LFA at "
-                         "1.5 m/s, DF,\n-- worst-case plume", "b3", "SolutionLine", items)])
+                         "1.5 m/s, DF,\n-- worst-case plume, alternative-case plume", "b3", "SolutionLine", items)])
 
 
 def sources_of(tables):
@@ -631,7 +638,7 @@ def rt_cell(cell):
     return {"LFB": CELL_LFB, "ND": CELL_NO_DATA}.get(cell, cell)
 
 
-NO_SUBSTANCE = {"lfa": 0, "lfb": 0, "df": 0, "endpoint": 0, "plume": "Neutral"}
+NO_SUBSTANCE = {"lfa": 0, "lfb": 0, "df": 0, "endpoint": 0, "plume": "Neutral", "alternative": "Neutral"}
 NO_FACTORS = ["ND"] * 5
 
 # The kinds of `Line` in crates/exhibits/src/lib.rt.
@@ -641,7 +648,8 @@ KIND_NONE, KIND_GAS, KIND_LIQUID, KIND_SOLUTION, KIND_ABOVE = range(5)
 def exhibit_line(kind, substance=NO_SUBSTANCE, cells=NO_FACTORS):
     """The flat line of a substance; the fields are those of `Line` in crates/exhibits/src/lib.rt."""
     fields = {"kind": kind, "lfa": substance["lfa"], "lfb": substance["lfb"], "df": substance["df"],
-              "endpoint": substance["endpoint"], "dense": int(substance["plume"] == "Dense")}
+              "endpoint": substance["endpoint"], "dense": int(substance["plume"] == "Dense"),
+              "alternative": int(substance["alternative"] == "Dense")}
     fields.update(zip(("at30", "at35", "at40", "at45", "at50"), map(rt_cell, cells)))
     return f"Line {{ {', '.join(f'{name}: {number}' for name, number in fields.items())} }}"
 

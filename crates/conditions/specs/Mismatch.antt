@@ -287,7 +287,7 @@ module _ (card : List ℕ) (standing : Standing) (from : Stands (fieldsOf card) 
   -- a solution, of what B-3 says
   solved : byteAt card 1 ≡ 5 → (x : Toxic) → Says (fieldsOf card .cas) (fieldsOf card .heat) x → (t : Tenths) → isListed x ≡ true → isOutOfRange x ≡ false → mismatched card ≡ isMismatch (planFor x (made x t))
   unfolding among
-  solved e _ (a-line (solution c n i a d p) _ _ _) t h r = mismatch-none card 5 e refl
+  solved e _ (a-line (solution c n i a d p alt) _ _ _) t h r = mismatch-none card 5 e refl
   solved e _ (out-of-range _ _) t h r = clash (cc)
   solved e _ (not-listed _) t h r = clash (cc)
 

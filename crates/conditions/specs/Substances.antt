@@ -37,8 +37,8 @@ gas-seen : (cas : ℕ) (line : GasLine) → among cas (map gasCas b1) ≡ true �
 gas-seen cas (gas c e b d p) h k = a-gas (record { lfb = b; df = d; endpoint = e; plume = p }) h k
 
 liquid-seen : (cas : ℕ) (line : LiquidLine) → liquidCas line ≡ cas → among cas (map gasCas b1) ≡ false → among cas (map liquidCas b2) ≡ true → Seen cas (liquidIn line)
-liquid-seen cas (liquid c e a b d p) q h k =
-    a-liquid (record { lfa = a; lfb = b; df = d; endpoint = e; plume = p; corrections = factorsOf c }) h k (ap factorsOf q)
+liquid-seen cas (liquid c e a b d p alt) q h k =
+    a-liquid (record { lfa = a; lfb = b; df = d; endpoint = e; plume = p; alternative = alt; corrections = factorsOf c }) h k (ap factorsOf q)
 
 pub seen : (cas : ℕ) → Seen cas (toxicOf cas)
 unfolding toxicOf
@@ -80,7 +80,7 @@ unfolding ofSolution
 solution-listed card = go (solutionOf (fieldsOf card .cas) (fieldsOf card .heat)) (says (fieldsOf card .cas) (fieldsOf card .heat))
   where
     go : (x : Toxic) → Says (fieldsOf card .cas) (fieldsOf card .heat) x → ofSolution card ≡ isListed x
-    go _ (a-line (solution c t e a d p) l q r) = l
+    go _ (a-line (solution c t e a d p alt) l q r) = l
     go _ (out-of-range l q) = l
     go _ (not-listed l) = l
 
@@ -88,6 +88,6 @@ pub solution-range : (cas tenths : ℕ) → isListed (solutionOf cas tenths) ≡
 solution-range cas tenths h = go (solutionOf cas tenths) (says cas tenths) h
   where
     go : (x : Toxic) → Says cas tenths x → isListed x ≡ true → isOutOfRange x ≡ badPercent cas tenths
-    go _ (a-line (solution c t e a d p) l q r) h = sym q
+    go _ (a-line (solution c t e a d p alt) l q r) h = sym q
     go _ (out-of-range l q) h = sym q
     go _ (not-listed l) h = clash (cc)

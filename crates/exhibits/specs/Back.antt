@@ -46,6 +46,7 @@ liquid-back (OfLiquid l) w k =
       df = l .df;
       endpoint = l .endpoint;
       plume = plume-back (l .plume) i;
+      alternative = plume-back (l .alternative) i;
       corrections = record {
         at30 = cell-back (l .corrections .at30) (w .at30-limit) i;
         at35 = cell-back (l .corrections .at35) (w .at35-limit) i;
@@ -62,7 +63,13 @@ pub solution-back : (t : Toxic) → kindOf t ≡ 3 → OfSolution (solutionFrom 
 solution-back (OfGas g) k = absurd (omega arith)
 solution-back (OfLiquid l) k = absurd (omega arith)
 solution-back (OfSolution s) k =
-    λ i. OfSolution (record { lfa = s .lfa; df = s .df; endpoint = s .endpoint; plume = plume-back (s .plume) i })
+    λ i. OfSolution (record {
+      lfa = s .lfa;
+      df = s .df;
+      endpoint = s .endpoint;
+      plume = plume-back (s .plume) i;
+      alternative = plume-back (s .alternative) i;
+    })
 solution-back OutOfRange k = absurd (omega arith)
 solution-back NotListed k = absurd (omega arith)
 

@@ -14,7 +14,7 @@ use Rattle.exhibits.specs.declared.Solution.{Solution}
 use Rattle.exhibits.specs.declared.Line.{Line}
 use Rattle.exhibits.specs.declared.Toxic.{Toxic}
 use Rattle.exhibits.specs.declared.Toxic.the-variants.{OfGas, OfLiquid, OfSolution, OutOfRange, NotListed}
-use Rattle.exhibits.specs.Exhibits.{noData}
+use Rattle.exhibits.specs.Exhibits.{noData, alternativePlume}
 
 -- the fields of a substance; one that it does not have is kept as 0, or as no data. Its kind is 1 for a gas of B-1, 2 for a
 -- liquid of B-2, 3 for a solution of B-3, 4 for one above the highest concentration there, 0 for none.
@@ -101,6 +101,7 @@ lineOf t = record {
   df = dfOf t;
   endpoint = endpointOf t;
   dense = denseOf (plumeOf t);
+  alternative = denseOf (alternativePlume t);
   at30 = codeOf (correctionsOf t .at30);
   at35 = codeOf (correctionsOf t .at35);
   at40 = codeOf (correctionsOf t .at40);
@@ -128,8 +129,15 @@ liquidFrom l = record {
   df = l .df;
   endpoint = l .endpoint;
   plume = plumeFrom (l .dense);
+  alternative = plumeFrom (l .alternative);
   corrections = correctionsFrom l;
 }
 
 abbrev pub solutionFrom : Line → Solution
-solutionFrom l = record { lfa = l .lfa; df = l .df; endpoint = l .endpoint; plume = plumeFrom (l .dense) }
+solutionFrom l = record {
+  lfa = l .lfa;
+  df = l .df;
+  endpoint = l .endpoint;
+  plume = plumeFrom (l .dense);
+  alternative = plumeFrom (l .alternative);
+}

@@ -4,7 +4,7 @@ use mathlib.Core.List.{List, [], _∷_}
 use Rattle.exhibits.specs.Printed.{GasLine, gas}
 use Rattle.exhibits.specs.declared.Plume.the-variants.{Neutral, Dense}
 
--- Exhibit B-1, toxic gases, in the printed order: CAS number, endpoint, LFB, DF, worst-case plume
+-- Exhibit B-1, toxic gases, in the printed order: CAS number, endpoint, LFB, DF, plume
 unfoldable pub b1 : List GasLine
 b1 =
     -- Ammonia (anhydrous)

@@ -4,109 +4,110 @@ use mathlib.Core.List.{List, [], _∷_}
 use Rattle.exhibits.specs.Printed.{LiquidLine, liquid}
 use Rattle.exhibits.specs.declared.Plume.the-variants.{Neutral, Dense}
 
--- Exhibit B-2, toxic liquids, in the printed order: CAS number, endpoint, LFA, LFB, DF, worst-case plume
+-- Exhibit B-2, toxic liquids, in the printed order: CAS number, endpoint, LFA, LFB, DF,
+-- worst-case plume, alternative-case plume
 unfoldable pub b2 : List LiquidLine
 b2 =
     -- Acrolein
-    liquid 107028 110 47000 120000 58 Dense
+    liquid 107028 110 47000 120000 58 Dense Dense
     -- Acrylonitrile
-    ∷ liquid 107131 7600 18000 110000 61 Dense
+    ∷ liquid 107131 7600 18000 110000 61 Dense Dense
     -- Acrylyl chloride
-    ∷ liquid 814686 90 26000 150000 44 Dense
+    ∷ liquid 814686 90 26000 150000 44 Dense Dense
     -- Allyl alcohol
-    ∷ liquid 107186 3600 4600 110000 58 Dense
+    ∷ liquid 107186 3600 4600 110000 58 Dense Neutral
     -- Allylamine
-    ∷ liquid 107119 320 42000 120000 64 Dense
+    ∷ liquid 107119 320 42000 120000 64 Dense Dense
     -- Arsenous trichloride
-    ∷ liquid 7784341 1000 3700 210000 23 Dense
+    ∷ liquid 7784341 1000 3700 210000 23 Dense Neutral
     -- Boron trifluoride compound with methyl ether (1:1)
-    ∷ liquid 353424 2300 3000 160000 49 Dense
+    ∷ liquid 353424 2300 3000 160000 49 Dense Neutral
     -- Bromine
-    ∷ liquid 7726956 650 73000 230000 16 Dense
+    ∷ liquid 7726956 650 73000 230000 16 Dense Dense
     -- Carbon disulfide
-    ∷ liquid 75150 16000 75000 150000 39 Dense
+    ∷ liquid 75150 16000 75000 150000 39 Dense Dense
     -- Chloroform
-    ∷ liquid 67663 49000 55000 190000 33 Dense
+    ∷ liquid 67663 49000 55000 190000 33 Dense Dense
     -- Chloromethyl ether
-    ∷ liquid 542881 25 8000 170000 37 Dense
+    ∷ liquid 542881 25 8000 170000 37 Dense Dense
     -- Chloromethyl methyl ether
-    ∷ liquid 107302 180 43000 150000 46 Dense
+    ∷ liquid 107302 180 43000 150000 46 Dense Dense
     -- Crotonaldehyde
-    ∷ liquid 4170303 2900 6600 120000 58 Dense
+    ∷ liquid 4170303 2900 6600 120000 58 Dense Neutral
     -- Crotonaldehyde, (E)-
-    ∷ liquid 123739 2900 6600 120000 58 Dense
+    ∷ liquid 123739 2900 6600 120000 58 Dense Neutral
     -- Cyclohexylamine
-    ∷ liquid 108918 16000 2500 140000 56 Dense
+    ∷ liquid 108918 16000 2500 140000 56 Dense Neutral
     -- Dimethyldichlorosilane
-    ∷ liquid 75785 2600 42000 200000 46 Dense
+    ∷ liquid 75785 2600 42000 200000 46 Dense Dense
     -- 1,1-Dimethylhydrazine
-    ∷ liquid 57147 1200 28000 120000 62 Dense
+    ∷ liquid 57147 1200 28000 120000 62 Dense Dense
     -- Epichlorohydrin
-    ∷ liquid 106898 7600 4000 140000 42 Dense
+    ∷ liquid 106898 7600 4000 140000 42 Dense Neutral
     -- Ethylenediamine
-    ∷ liquid 107153 49000 2200 130000 54 Dense
+    ∷ liquid 107153 49000 2200 130000 54 Dense Neutral
     -- Ethyleneimine
-    ∷ liquid 151564 1800 30000 100000 58 Dense
+    ∷ liquid 151564 1800 30000 100000 58 Dense Dense
     -- Furan
-    ∷ liquid 110009 120 120000 140000 52 Dense
+    ∷ liquid 110009 120 120000 140000 52 Dense Dense
     -- Hydrazine
-    ∷ liquid 302012 1100 1700 69000 48 Neutral
+    ∷ liquid 302012 1100 1700 69000 48 Neutral Neutral
     -- Iron, pentacarbonyl-
-    ∷ liquid 13463406 44 16000 240000 33 Dense
+    ∷ liquid 13463406 44 16000 240000 33 Dense Dense
     -- Isobutyronitrile
-    ∷ liquid 78820 14000 6400 120000 63 Dense
+    ∷ liquid 78820 14000 6400 120000 63 Dense Neutral
     -- Isopropyl chloroformate
-    ∷ liquid 108236 10000 8000 170000 45 Dense
+    ∷ liquid 108236 10000 8000 170000 45 Dense Dense
     -- Methacrylonitrile
-    ∷ liquid 126987 270 14000 120000 61 Dense
+    ∷ liquid 126987 270 14000 120000 61 Dense Dense
     -- Methyl chloroformate
-    ∷ liquid 79221 190 26000 160000 40 Dense
+    ∷ liquid 79221 190 26000 160000 40 Dense Dense
     -- Methyl hydrazine
-    ∷ liquid 60344 940 7400 94000 56 Dense
+    ∷ liquid 60344 940 7400 94000 56 Dense Neutral
     -- Methyl isocyanate
-    ∷ liquid 624839 120 79000 130000 52 Dense
+    ∷ liquid 624839 120 79000 130000 52 Dense Dense
     -- Methyl thiocyanate
-    ∷ liquid 556649 8500 2000 110000 45 Dense
+    ∷ liquid 556649 8500 2000 110000 45 Dense Neutral
     -- Methyltrichlorosilane
-    ∷ liquid 75796 1800 57000 220000 38 Dense
+    ∷ liquid 75796 1800 57000 220000 38 Dense Dense
     -- Nickel carbonyl
-    ∷ liquid 13463393 67 140000 260000 37 Dense
+    ∷ liquid 13463393 67 140000 260000 37 Dense Dense
     -- Nitric acid (100%)
-    ∷ liquid 7697372 2600 12000 120000 32 Dense
+    ∷ liquid 7697372 2600 12000 120000 32 Dense Dense
     -- Peracetic acid
-    ∷ liquid 79210 450 2900 120000 40 Dense
+    ∷ liquid 79210 450 2900 120000 40 Dense Neutral
     -- Perchloromethylmercaptan
-    ∷ liquid 594423 760 2300 200000 29 Dense
+    ∷ liquid 594423 760 2300 200000 29 Dense Neutral
     -- Phosphorus oxychloride
-    ∷ liquid 10025873 300 12000 200000 29 Dense
+    ∷ liquid 10025873 300 12000 200000 29 Dense Dense
     -- Phosphorus trichloride
-    ∷ liquid 7719122 2800 37000 200000 31 Dense
+    ∷ liquid 7719122 2800 37000 200000 31 Dense Dense
     -- Piperidine
-    ∷ liquid 110894 2200 7200 130000 57 Dense
+    ∷ liquid 110894 2200 7200 130000 57 Dense Neutral
     -- Propionitrile
-    ∷ liquid 107120 370 8000 100000 63 Dense
+    ∷ liquid 107120 370 8000 100000 63 Dense Neutral
     -- Propyl chloroformate
-    ∷ liquid 109615 1000 5800 170000 45 Dense
+    ∷ liquid 109615 1000 5800 170000 45 Dense Neutral
     -- Propyleneimine
-    ∷ liquid 75558 12000 32000 120000 61 Dense
+    ∷ liquid 75558 12000 32000 120000 61 Dense Dense
     -- Propylene oxide
-    ∷ liquid 75569 59000 93000 130000 59 Dense
+    ∷ liquid 75569 59000 93000 130000 59 Dense Dense
     -- Sulfur trioxide
-    ∷ liquid 7446119 1000 57000 150000 26 Dense
+    ∷ liquid 7446119 1000 57000 150000 26 Dense Dense
     -- Tetramethyllead
-    ∷ liquid 75741 400 11000 290000 24 Dense
+    ∷ liquid 75741 400 11000 290000 24 Dense Dense
     -- Tetranitromethane
-    ∷ liquid 509148 400 4500 220000 30 Dense
+    ∷ liquid 509148 400 4500 220000 30 Dense Neutral
     -- Titanium tetrachloride
-    ∷ liquid 7550450 2000 4800 210000 28 Dense
+    ∷ liquid 7550450 2000 4800 210000 28 Dense Neutral
     -- Toluene 2,4-diisocyanate
-    ∷ liquid 584849 700 6 160000 40 Neutral
+    ∷ liquid 584849 700 6 160000 40 Neutral Neutral
     -- Toluene 2,6-diisocyanate
-    ∷ liquid 91087 700 18 160000 40 Neutral
+    ∷ liquid 91087 700 18 160000 40 Neutral Neutral
     -- Toluene diisocyanate (unspecified isomer)
-    ∷ liquid 26471625 700 6 160000 40 Neutral
+    ∷ liquid 26471625 700 6 160000 40 Neutral Neutral
     -- Trimethylchlorosilane
-    ∷ liquid 75774 5000 61000 180000 57 Dense
+    ∷ liquid 75774 5000 61000 180000 57 Dense Dense
     -- Vinyl acetate monomer
-    ∷ liquid 108054 26000 26000 150000 53 Dense
+    ∷ liquid 108054 26000 26000 150000 53 Dense Dense
     ∷ []

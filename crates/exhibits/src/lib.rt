@@ -6,7 +6,7 @@ ghost use mathlib.Core.Path.{_≡_};
 ghost use Rattle.exhibits.specs.Exhibits.{toxicOf};
 ghost use Rattle.exhibits.specs.Lines.{plumeFrom, cellFrom, correctionsFrom, gasFrom, liquidFrom};
 
-// How the worst-case plume behaves in air.
+// How a plume behaves in air.
 pub enum Plume {
     Neutral,
     Dense,
@@ -28,7 +28,7 @@ pub struct Corrections {
     pub at50: Cell,
 }
 
-// LFB in millionths, DF in hundredths, the endpoint in hundred-thousandths of mg/L.
+// LFB in millionths, DF in hundredths, the endpoint in hundred-thousandths of mg/L, the plume of the one column that B-1 has.
 pub struct Gas {
     pub lfb: u32,
     pub df: u8,
@@ -36,22 +36,26 @@ pub struct Gas {
     pub plume: Plume,
 }
 
-// LFA and LFB in millionths, DF in hundredths, the endpoint in hundred-thousandths of mg/L.
+// LFA and LFB in millionths, DF in hundredths, the endpoint in hundred-thousandths of mg/L, the worst-case and the alternative-case
+// plume.
 pub struct Liquid {
     pub lfa: u32,
     pub lfb: u32,
     pub df: u8,
     pub endpoint: u32,
     pub plume: Plume,
+    pub alternative: Plume,
     pub corrections: Corrections,
 }
 
-// A water solution, or oleum, at a concentration: LFA in millionths, DF in hundredths, the endpoint in hundred-thousandths of mg/L.
+// A water solution, or oleum, at a concentration: LFA in millionths, DF in hundredths, the endpoint in hundred-thousandths of mg/L,
+// the worst-case and the alternative-case plume.
 pub struct Solution {
     pub lfa: u32,
     pub df: u8,
     pub endpoint: u32,
     pub plume: Plume,
+    pub alternative: Plume,
 }
 
 // What the exhibits say of a CAS number, and of a solution's concentration, which may be out of range.
@@ -64,8 +68,8 @@ pub enum Toxic {
 }
 
 // The exhibits' line of a substance, in numbers: 1 for a gas of B-1, 2 for a liquid of B-2, 3 for a solution of B-3, 4 for one
-// above the highest concentration there, 0 for none; 1 for a dense plume; a cell of B-4 as a factor, 65534 for LFB or 65535 for
-// no data.
+// above the highest concentration there, 0 for none; 1 for a dense plume, in the worst case and in the alternative one; a cell of
+// B-4 as a factor, 65534 for LFB or 65535 for no data.
 pub struct Line {
     pub kind: u8,
     pub lfa: u32,
@@ -73,6 +77,7 @@ pub struct Line {
     pub df: u8,
     pub endpoint: u32,
     pub dense: u8,
+    pub alternative: u8,
     pub at30: u16,
     pub at35: u16,
     pub at40: u16,
@@ -134,6 +139,7 @@ fn liquid_in(line: Line) -> Liquid
         df: line.df,
         endpoint: line.endpoint,
         plume: plume_from(line.dense),
+        alternative: plume_from(line.alternative),
         corrections: corrections_in(line),
     }
 }

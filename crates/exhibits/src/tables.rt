@@ -10,153 +10,153 @@ pub fn line_of(cas: u32) -> Line
 {
     match cas {
         // Ammonia (anhydrous)
-        7664417 => Line { kind: 1, lfa: 0, lfb: 73000, df: 71, endpoint: 14000, dense: 0, at30: 65535, at35: 65535, at40: 65535, at45: 65535, at50: 65535 },
+        7664417 => Line { kind: 1, lfa: 0, lfb: 73000, df: 71, endpoint: 14000, dense: 0, alternative: 0, at30: 65535, at35: 65535, at40: 65535, at45: 65535, at50: 65535 },
         // Arsine
-        7784421 => Line { kind: 1, lfa: 0, lfb: 230000, df: 30, endpoint: 190, dense: 1, at30: 65535, at35: 65535, at40: 65535, at45: 65535, at50: 65535 },
+        7784421 => Line { kind: 1, lfa: 0, lfb: 230000, df: 30, endpoint: 190, dense: 1, alternative: 1, at30: 65535, at35: 65535, at40: 65535, at45: 65535, at50: 65535 },
         // Boron trichloride
-        10294345 => Line { kind: 1, lfa: 0, lfb: 220000, df: 36, endpoint: 1000, dense: 1, at30: 65535, at35: 65535, at40: 65535, at45: 65535, at50: 65535 },
+        10294345 => Line { kind: 1, lfa: 0, lfb: 220000, df: 36, endpoint: 1000, dense: 1, alternative: 1, at30: 65535, at35: 65535, at40: 65535, at45: 65535, at50: 65535 },
         // Boron trifluoride
-        7637072 => Line { kind: 1, lfa: 0, lfb: 250000, df: 31, endpoint: 2800, dense: 1, at30: 65535, at35: 65535, at40: 65535, at45: 65535, at50: 65535 },
+        7637072 => Line { kind: 1, lfa: 0, lfb: 250000, df: 31, endpoint: 2800, dense: 1, alternative: 1, at30: 65535, at35: 65535, at40: 65535, at45: 65535, at50: 65535 },
         // Chlorine
-        7782505 => Line { kind: 1, lfa: 0, lfb: 190000, df: 31, endpoint: 870, dense: 1, at30: 65535, at35: 65535, at40: 65535, at45: 65535, at50: 65535 },
+        7782505 => Line { kind: 1, lfa: 0, lfb: 190000, df: 31, endpoint: 870, dense: 1, alternative: 1, at30: 65535, at35: 65535, at40: 65535, at45: 65535, at50: 65535 },
         // Chlorine dioxide
-        10049044 => Line { kind: 1, lfa: 0, lfb: 150000, df: 30, endpoint: 280, dense: 1, at30: 65535, at35: 65535, at40: 65535, at45: 65535, at50: 65535 },
+        10049044 => Line { kind: 1, lfa: 0, lfb: 150000, df: 30, endpoint: 280, dense: 1, alternative: 1, at30: 65535, at35: 65535, at40: 65535, at45: 65535, at50: 65535 },
         // Cyanogen chloride
-        506774 => Line { kind: 1, lfa: 0, lfb: 140000, df: 41, endpoint: 3000, dense: 1, at30: 65535, at35: 65535, at40: 65535, at45: 65535, at50: 65535 },
+        506774 => Line { kind: 1, lfa: 0, lfb: 140000, df: 41, endpoint: 3000, dense: 1, alternative: 1, at30: 65535, at35: 65535, at40: 65535, at45: 65535, at50: 65535 },
         // Diborane
-        19287457 => Line { kind: 1, lfa: 0, lfb: 130000, df: 113, endpoint: 110, dense: 0, at30: 65535, at35: 65535, at40: 65535, at45: 65535, at50: 65535 },
+        19287457 => Line { kind: 1, lfa: 0, lfb: 130000, df: 113, endpoint: 110, dense: 0, alternative: 0, at30: 65535, at35: 65535, at40: 65535, at45: 65535, at50: 65535 },
         // Ethylene oxide
-        75218 => Line { kind: 1, lfa: 0, lfb: 120000, df: 55, endpoint: 9000, dense: 1, at30: 65535, at35: 65535, at40: 65535, at45: 65535, at50: 65535 },
+        75218 => Line { kind: 1, lfa: 0, lfb: 120000, df: 55, endpoint: 9000, dense: 1, alternative: 1, at30: 65535, at35: 65535, at40: 65535, at45: 65535, at50: 65535 },
         // Fluorine
-        7782414 => Line { kind: 1, lfa: 0, lfb: 350000, df: 32, endpoint: 390, dense: 1, at30: 65535, at35: 65535, at40: 65535, at45: 65535, at50: 65535 },
+        7782414 => Line { kind: 1, lfa: 0, lfb: 350000, df: 32, endpoint: 390, dense: 1, alternative: 1, at30: 65535, at35: 65535, at40: 65535, at45: 65535, at50: 65535 },
         // Formaldehyde (anhydrous)
-        50000 => Line { kind: 1, lfa: 0, lfb: 100000, df: 59, endpoint: 1200, dense: 1, at30: 65535, at35: 65535, at40: 65535, at45: 65535, at50: 65535 },
+        50000 => Line { kind: 1, lfa: 0, lfb: 100000, df: 59, endpoint: 1200, dense: 1, alternative: 1, at30: 65535, at35: 65535, at40: 65535, at45: 65535, at50: 65535 },
         // Hydrocyanic acid
-        74908 => Line { kind: 1, lfa: 0, lfb: 79000, df: 72, endpoint: 1100, dense: 0, at30: 65535, at35: 65535, at40: 65535, at45: 65535, at50: 65535 },
+        74908 => Line { kind: 1, lfa: 0, lfb: 79000, df: 72, endpoint: 1100, dense: 0, alternative: 0, at30: 65535, at35: 65535, at40: 65535, at45: 65535, at50: 65535 },
         // Hydrogen chloride (anhydrous)
-        7647010 => Line { kind: 1, lfa: 0, lfb: 150000, df: 41, endpoint: 3000, dense: 1, at30: 65535, at35: 65535, at40: 65535, at45: 65535, at50: 65535 },
+        7647010 => Line { kind: 1, lfa: 0, lfb: 150000, df: 41, endpoint: 3000, dense: 1, alternative: 1, at30: 65535, at35: 65535, at40: 65535, at45: 65535, at50: 65535 },
         // Hydrogen fluoride (anhydrous)
-        7664393 => Line { kind: 1, lfa: 0, lfb: 66000, df: 51, endpoint: 1600, dense: 0, at30: 65535, at35: 65535, at40: 65535, at45: 65535, at50: 65535 },
+        7664393 => Line { kind: 1, lfa: 0, lfb: 66000, df: 51, endpoint: 1600, dense: 0, alternative: 0, at30: 65535, at35: 65535, at40: 65535, at45: 65535, at50: 65535 },
         // Hydrogen selenide
-        7783075 => Line { kind: 1, lfa: 0, lfb: 210000, df: 25, endpoint: 66, dense: 1, at30: 65535, at35: 65535, at40: 65535, at45: 65535, at50: 65535 },
+        7783075 => Line { kind: 1, lfa: 0, lfb: 210000, df: 25, endpoint: 66, dense: 1, alternative: 1, at30: 65535, at35: 65535, at40: 65535, at45: 65535, at50: 65535 },
         // Hydrogen sulfide
-        7783064 => Line { kind: 1, lfa: 0, lfb: 130000, df: 51, endpoint: 4200, dense: 1, at30: 65535, at35: 65535, at40: 65535, at45: 65535, at50: 65535 },
+        7783064 => Line { kind: 1, lfa: 0, lfb: 130000, df: 51, endpoint: 4200, dense: 1, alternative: 1, at30: 65535, at35: 65535, at40: 65535, at45: 65535, at50: 65535 },
         // Methyl chloride
-        74873 => Line { kind: 1, lfa: 0, lfb: 140000, df: 48, endpoint: 82000, dense: 1, at30: 65535, at35: 65535, at40: 65535, at45: 65535, at50: 65535 },
+        74873 => Line { kind: 1, lfa: 0, lfb: 140000, df: 48, endpoint: 82000, dense: 1, alternative: 1, at30: 65535, at35: 65535, at40: 65535, at45: 65535, at50: 65535 },
         // Methyl mercaptan
-        74931 => Line { kind: 1, lfa: 0, lfb: 120000, df: 55, endpoint: 4900, dense: 1, at30: 65535, at35: 65535, at40: 65535, at45: 65535, at50: 65535 },
+        74931 => Line { kind: 1, lfa: 0, lfb: 120000, df: 55, endpoint: 4900, dense: 1, alternative: 1, at30: 65535, at35: 65535, at40: 65535, at45: 65535, at50: 65535 },
         // Nitric oxide
-        10102439 => Line { kind: 1, lfa: 0, lfb: 210000, df: 38, endpoint: 3100, dense: 1, at30: 65535, at35: 65535, at40: 65535, at45: 65535, at50: 65535 },
+        10102439 => Line { kind: 1, lfa: 0, lfb: 210000, df: 38, endpoint: 3100, dense: 1, alternative: 1, at30: 65535, at35: 65535, at40: 65535, at45: 65535, at50: 65535 },
         // Phosgene
-        75445 => Line { kind: 1, lfa: 0, lfb: 200000, df: 35, endpoint: 81, dense: 1, at30: 65535, at35: 65535, at40: 65535, at45: 65535, at50: 65535 },
+        75445 => Line { kind: 1, lfa: 0, lfb: 200000, df: 35, endpoint: 81, dense: 1, alternative: 1, at30: 65535, at35: 65535, at40: 65535, at45: 65535, at50: 65535 },
         // Phosphine
-        7803512 => Line { kind: 1, lfa: 0, lfb: 150000, df: 66, endpoint: 350, dense: 1, at30: 65535, at35: 65535, at40: 65535, at45: 65535, at50: 65535 },
+        7803512 => Line { kind: 1, lfa: 0, lfb: 150000, df: 66, endpoint: 350, dense: 1, alternative: 1, at30: 65535, at35: 65535, at40: 65535, at45: 65535, at50: 65535 },
         // Sulfur dioxide (anhydrous)
-        7446095 => Line { kind: 1, lfa: 0, lfb: 160000, df: 33, endpoint: 780, dense: 1, at30: 65535, at35: 65535, at40: 65535, at45: 65535, at50: 65535 },
+        7446095 => Line { kind: 1, lfa: 0, lfb: 160000, df: 33, endpoint: 780, dense: 1, alternative: 1, at30: 65535, at35: 65535, at40: 65535, at45: 65535, at50: 65535 },
         // Sulfur tetrafluoride
-        7783600 => Line { kind: 1, lfa: 0, lfb: 250000, df: 25, endpoint: 920, dense: 1, at30: 65535, at35: 65535, at40: 65535, at45: 65535, at50: 65535 },
+        7783600 => Line { kind: 1, lfa: 0, lfb: 250000, df: 25, endpoint: 920, dense: 1, alternative: 1, at30: 65535, at35: 65535, at40: 65535, at45: 65535, at50: 65535 },
         // Acrolein
-        107028 => Line { kind: 2, lfa: 47000, lfb: 120000, df: 58, endpoint: 110, dense: 1, at30: 120, at35: 140, at40: 170, at45: 200, at50: 230 },
+        107028 => Line { kind: 2, lfa: 47000, lfb: 120000, df: 58, endpoint: 110, dense: 1, alternative: 1, at30: 120, at35: 140, at40: 170, at45: 200, at50: 230 },
         // Acrylonitrile
-        107131 => Line { kind: 2, lfa: 18000, lfb: 110000, df: 61, endpoint: 7600, dense: 1, at30: 120, at35: 150, at40: 180, at45: 210, at50: 250 },
+        107131 => Line { kind: 2, lfa: 18000, lfb: 110000, df: 61, endpoint: 7600, dense: 1, alternative: 1, at30: 120, at35: 150, at40: 180, at45: 210, at50: 250 },
         // Acrylyl chloride
-        814686 => Line { kind: 2, lfa: 26000, lfb: 150000, df: 44, endpoint: 90, dense: 1, at30: 65535, at35: 65535, at40: 65535, at45: 65535, at50: 65535 },
+        814686 => Line { kind: 2, lfa: 26000, lfb: 150000, df: 44, endpoint: 90, dense: 1, alternative: 1, at30: 65535, at35: 65535, at40: 65535, at45: 65535, at50: 65535 },
         // Allyl alcohol
-        107186 => Line { kind: 2, lfa: 4600, lfb: 110000, df: 58, endpoint: 3600, dense: 1, at30: 130, at35: 170, at40: 220, at45: 290, at50: 360 },
+        107186 => Line { kind: 2, lfa: 4600, lfb: 110000, df: 58, endpoint: 3600, dense: 1, alternative: 0, at30: 130, at35: 170, at40: 220, at45: 290, at50: 360 },
         // Allylamine
-        107119 => Line { kind: 2, lfa: 42000, lfb: 120000, df: 64, endpoint: 320, dense: 1, at30: 120, at35: 150, at40: 180, at45: 210, at50: 250 },
+        107119 => Line { kind: 2, lfa: 42000, lfb: 120000, df: 64, endpoint: 320, dense: 1, alternative: 1, at30: 120, at35: 150, at40: 180, at45: 210, at50: 250 },
         // Arsenous trichloride
-        7784341 => Line { kind: 2, lfa: 3700, lfb: 210000, df: 23, endpoint: 1000, dense: 1, at30: 65535, at35: 65535, at40: 65535, at45: 65535, at50: 65535 },
+        7784341 => Line { kind: 2, lfa: 3700, lfb: 210000, df: 23, endpoint: 1000, dense: 1, alternative: 0, at30: 65535, at35: 65535, at40: 65535, at45: 65535, at50: 65535 },
         // Boron trifluoride compound with methyl ether (1:1)
-        353424 => Line { kind: 2, lfa: 3000, lfb: 160000, df: 49, endpoint: 2300, dense: 1, at30: 65535, at35: 65535, at40: 65535, at45: 65535, at50: 65535 },
+        353424 => Line { kind: 2, lfa: 3000, lfb: 160000, df: 49, endpoint: 2300, dense: 1, alternative: 0, at30: 65535, at35: 65535, at40: 65535, at45: 65535, at50: 65535 },
         // Bromine
-        7726956 => Line { kind: 2, lfa: 73000, lfb: 230000, df: 16, endpoint: 650, dense: 1, at30: 120, at35: 150, at40: 170, at45: 210, at50: 250 },
+        7726956 => Line { kind: 2, lfa: 73000, lfb: 230000, df: 16, endpoint: 650, dense: 1, alternative: 1, at30: 120, at35: 150, at40: 170, at45: 210, at50: 250 },
         // Carbon disulfide
-        75150 => Line { kind: 2, lfa: 75000, lfb: 150000, df: 39, endpoint: 16000, dense: 1, at30: 120, at35: 140, at40: 160, at45: 190, at50: 65534 },
+        75150 => Line { kind: 2, lfa: 75000, lfb: 150000, df: 39, endpoint: 16000, dense: 1, alternative: 1, at30: 120, at35: 140, at40: 160, at45: 190, at50: 65534 },
         // Chloroform
-        67663 => Line { kind: 2, lfa: 55000, lfb: 190000, df: 33, endpoint: 49000, dense: 1, at30: 120, at35: 150, at40: 180, at45: 210, at50: 250 },
+        67663 => Line { kind: 2, lfa: 55000, lfb: 190000, df: 33, endpoint: 49000, dense: 1, alternative: 1, at30: 120, at35: 150, at40: 180, at45: 210, at50: 250 },
         // Chloromethyl ether
-        542881 => Line { kind: 2, lfa: 8000, lfb: 170000, df: 37, endpoint: 25, dense: 1, at30: 130, at35: 160, at40: 200, at45: 250, at50: 310 },
+        542881 => Line { kind: 2, lfa: 8000, lfb: 170000, df: 37, endpoint: 25, dense: 1, alternative: 1, at30: 130, at35: 160, at40: 200, at45: 250, at50: 310 },
         // Chloromethyl methyl ether
-        107302 => Line { kind: 2, lfa: 43000, lfb: 150000, df: 46, endpoint: 180, dense: 1, at30: 120, at35: 150, at40: 180, at45: 210, at50: 250 },
+        107302 => Line { kind: 2, lfa: 43000, lfb: 150000, df: 46, endpoint: 180, dense: 1, alternative: 1, at30: 120, at35: 150, at40: 180, at45: 210, at50: 250 },
         // Crotonaldehyde
-        4170303 => Line { kind: 2, lfa: 6600, lfb: 120000, df: 58, endpoint: 2900, dense: 1, at30: 130, at35: 160, at40: 200, at45: 250, at50: 310 },
+        4170303 => Line { kind: 2, lfa: 6600, lfb: 120000, df: 58, endpoint: 2900, dense: 1, alternative: 0, at30: 130, at35: 160, at40: 200, at45: 250, at50: 310 },
         // Crotonaldehyde, (E)-
-        123739 => Line { kind: 2, lfa: 6600, lfb: 120000, df: 58, endpoint: 2900, dense: 1, at30: 130, at35: 160, at40: 200, at45: 250, at50: 310 },
+        123739 => Line { kind: 2, lfa: 6600, lfb: 120000, df: 58, endpoint: 2900, dense: 1, alternative: 0, at30: 130, at35: 160, at40: 200, at45: 250, at50: 310 },
         // Cyclohexylamine
-        108918 => Line { kind: 2, lfa: 2500, lfb: 140000, df: 56, endpoint: 16000, dense: 1, at30: 130, at35: 170, at40: 210, at45: 270, at50: 340 },
+        108918 => Line { kind: 2, lfa: 2500, lfb: 140000, df: 56, endpoint: 16000, dense: 1, alternative: 0, at30: 130, at35: 170, at40: 210, at45: 270, at50: 340 },
         // Dimethyldichlorosilane
-        75785 => Line { kind: 2, lfa: 42000, lfb: 200000, df: 46, endpoint: 2600, dense: 1, at30: 120, at35: 150, at40: 180, at45: 210, at50: 250 },
+        75785 => Line { kind: 2, lfa: 42000, lfb: 200000, df: 46, endpoint: 2600, dense: 1, alternative: 1, at30: 120, at35: 150, at40: 180, at45: 210, at50: 250 },
         // 1,1-Dimethylhydrazine
-        57147 => Line { kind: 2, lfa: 28000, lfb: 120000, df: 62, endpoint: 1200, dense: 1, at30: 65535, at35: 65535, at40: 65535, at45: 65535, at50: 65535 },
+        57147 => Line { kind: 2, lfa: 28000, lfb: 120000, df: 62, endpoint: 1200, dense: 1, alternative: 1, at30: 65535, at35: 65535, at40: 65535, at45: 65535, at50: 65535 },
         // Epichlorohydrin
-        106898 => Line { kind: 2, lfa: 4000, lfb: 140000, df: 42, endpoint: 7600, dense: 1, at30: 130, at35: 170, at40: 210, at45: 270, at50: 340 },
+        106898 => Line { kind: 2, lfa: 4000, lfb: 140000, df: 42, endpoint: 7600, dense: 1, alternative: 0, at30: 130, at35: 170, at40: 210, at45: 270, at50: 340 },
         // Ethylenediamine
-        107153 => Line { kind: 2, lfa: 2200, lfb: 130000, df: 54, endpoint: 49000, dense: 1, at30: 130, at35: 180, at40: 65534, at45: 65534, at50: 65534 },
+        107153 => Line { kind: 2, lfa: 2200, lfb: 130000, df: 54, endpoint: 49000, dense: 1, alternative: 0, at30: 130, at35: 180, at40: 65534, at45: 65534, at50: 65534 },
         // Ethyleneimine
-        151564 => Line { kind: 2, lfa: 30000, lfb: 100000, df: 58, endpoint: 1800, dense: 1, at30: 120, at35: 150, at40: 180, at45: 220, at50: 270 },
+        151564 => Line { kind: 2, lfa: 30000, lfb: 100000, df: 58, endpoint: 1800, dense: 1, alternative: 1, at30: 120, at35: 150, at40: 180, at45: 220, at50: 270 },
         // Furan
-        110009 => Line { kind: 2, lfa: 120000, lfb: 140000, df: 52, endpoint: 120, dense: 1, at30: 120, at35: 65534, at40: 65534, at45: 65534, at50: 65534 },
+        110009 => Line { kind: 2, lfa: 120000, lfb: 140000, df: 52, endpoint: 120, dense: 1, alternative: 1, at30: 120, at35: 65534, at40: 65534, at45: 65534, at50: 65534 },
         // Hydrazine
-        302012 => Line { kind: 2, lfa: 1700, lfb: 69000, df: 48, endpoint: 1100, dense: 0, at30: 130, at35: 170, at40: 220, at45: 290, at50: 360 },
+        302012 => Line { kind: 2, lfa: 1700, lfb: 69000, df: 48, endpoint: 1100, dense: 0, alternative: 0, at30: 130, at35: 170, at40: 220, at45: 290, at50: 360 },
         // Iron, pentacarbonyl-
-        13463406 => Line { kind: 2, lfa: 16000, lfb: 240000, df: 33, endpoint: 44, dense: 1, at30: 65535, at35: 65535, at40: 65535, at45: 65535, at50: 65535 },
+        13463406 => Line { kind: 2, lfa: 16000, lfb: 240000, df: 33, endpoint: 44, dense: 1, alternative: 1, at30: 65535, at35: 65535, at40: 65535, at45: 65535, at50: 65535 },
         // Isobutyronitrile
-        78820 => Line { kind: 2, lfa: 6400, lfb: 120000, df: 63, endpoint: 14000, dense: 1, at30: 130, at35: 160, at40: 200, at45: 250, at50: 310 },
+        78820 => Line { kind: 2, lfa: 6400, lfb: 120000, df: 63, endpoint: 14000, dense: 1, alternative: 0, at30: 130, at35: 160, at40: 200, at45: 250, at50: 310 },
         // Isopropyl chloroformate
-        108236 => Line { kind: 2, lfa: 8000, lfb: 170000, df: 45, endpoint: 10000, dense: 1, at30: 65535, at35: 65535, at40: 65535, at45: 65535, at50: 65535 },
+        108236 => Line { kind: 2, lfa: 8000, lfb: 170000, df: 45, endpoint: 10000, dense: 1, alternative: 1, at30: 65535, at35: 65535, at40: 65535, at45: 65535, at50: 65535 },
         // Methacrylonitrile
-        126987 => Line { kind: 2, lfa: 14000, lfb: 120000, df: 61, endpoint: 270, dense: 1, at30: 120, at35: 150, at40: 180, at45: 220, at50: 260 },
+        126987 => Line { kind: 2, lfa: 14000, lfb: 120000, df: 61, endpoint: 270, dense: 1, alternative: 1, at30: 120, at35: 150, at40: 180, at45: 220, at50: 260 },
         // Methyl chloroformate
-        79221 => Line { kind: 2, lfa: 26000, lfb: 160000, df: 40, endpoint: 190, dense: 1, at30: 130, at35: 160, at40: 190, at45: 240, at50: 290 },
+        79221 => Line { kind: 2, lfa: 26000, lfb: 160000, df: 40, endpoint: 190, dense: 1, alternative: 1, at30: 130, at35: 160, at40: 190, at45: 240, at50: 290 },
         // Methyl hydrazine
-        60344 => Line { kind: 2, lfa: 7400, lfb: 94000, df: 56, endpoint: 940, dense: 1, at30: 65535, at35: 65535, at40: 65535, at45: 65535, at50: 65535 },
+        60344 => Line { kind: 2, lfa: 7400, lfb: 94000, df: 56, endpoint: 940, dense: 1, alternative: 0, at30: 65535, at35: 65535, at40: 65535, at45: 65535, at50: 65535 },
         // Methyl isocyanate
-        624839 => Line { kind: 2, lfa: 79000, lfb: 130000, df: 52, endpoint: 120, dense: 1, at30: 120, at35: 140, at40: 65534, at45: 65534, at50: 65534 },
+        624839 => Line { kind: 2, lfa: 79000, lfb: 130000, df: 52, endpoint: 120, dense: 1, alternative: 1, at30: 120, at35: 140, at40: 65534, at45: 65534, at50: 65534 },
         // Methyl thiocyanate
-        556649 => Line { kind: 2, lfa: 2000, lfb: 110000, df: 45, endpoint: 8500, dense: 1, at30: 65535, at35: 65535, at40: 65535, at45: 65535, at50: 65535 },
+        556649 => Line { kind: 2, lfa: 2000, lfb: 110000, df: 45, endpoint: 8500, dense: 1, alternative: 0, at30: 65535, at35: 65535, at40: 65535, at45: 65535, at50: 65535 },
         // Methyltrichlorosilane
-        75796 => Line { kind: 2, lfa: 57000, lfb: 220000, df: 38, endpoint: 1800, dense: 1, at30: 120, at35: 140, at40: 170, at45: 200, at50: 240 },
+        75796 => Line { kind: 2, lfa: 57000, lfb: 220000, df: 38, endpoint: 1800, dense: 1, alternative: 1, at30: 120, at35: 140, at40: 170, at45: 200, at50: 240 },
         // Nickel carbonyl
-        13463393 => Line { kind: 2, lfa: 140000, lfb: 260000, df: 37, endpoint: 67, dense: 1, at30: 65535, at35: 65535, at40: 65535, at45: 65535, at50: 65535 },
+        13463393 => Line { kind: 2, lfa: 140000, lfb: 260000, df: 37, endpoint: 67, dense: 1, alternative: 1, at30: 65535, at35: 65535, at40: 65535, at45: 65535, at50: 65535 },
         // Nitric acid (100%)
-        7697372 => Line { kind: 2, lfa: 12000, lfb: 120000, df: 32, endpoint: 2600, dense: 1, at30: 130, at35: 160, at40: 200, at45: 250, at50: 310 },
+        7697372 => Line { kind: 2, lfa: 12000, lfb: 120000, df: 32, endpoint: 2600, dense: 1, alternative: 1, at30: 130, at35: 160, at40: 200, at45: 250, at50: 310 },
         // Peracetic acid
-        79210 => Line { kind: 2, lfa: 2900, lfb: 120000, df: 40, endpoint: 450, dense: 1, at30: 130, at35: 180, at40: 230, at45: 300, at50: 380 },
+        79210 => Line { kind: 2, lfa: 2900, lfb: 120000, df: 40, endpoint: 450, dense: 1, alternative: 0, at30: 130, at35: 180, at40: 230, at45: 300, at50: 380 },
         // Perchloromethylmercaptan
-        594423 => Line { kind: 2, lfa: 2300, lfb: 200000, df: 29, endpoint: 760, dense: 1, at30: 65535, at35: 65535, at40: 65535, at45: 65535, at50: 65535 },
+        594423 => Line { kind: 2, lfa: 2300, lfb: 200000, df: 29, endpoint: 760, dense: 1, alternative: 0, at30: 65535, at35: 65535, at40: 65535, at45: 65535, at50: 65535 },
         // Phosphorus oxychloride
-        10025873 => Line { kind: 2, lfa: 12000, lfb: 200000, df: 29, endpoint: 300, dense: 1, at30: 130, at35: 160, at40: 190, at45: 240, at50: 290 },
+        10025873 => Line { kind: 2, lfa: 12000, lfb: 200000, df: 29, endpoint: 300, dense: 1, alternative: 1, at30: 130, at35: 160, at40: 190, at45: 240, at50: 290 },
         // Phosphorus trichloride
-        7719122 => Line { kind: 2, lfa: 37000, lfb: 200000, df: 31, endpoint: 2800, dense: 1, at30: 120, at35: 150, at40: 180, at45: 210, at50: 250 },
+        7719122 => Line { kind: 2, lfa: 37000, lfb: 200000, df: 31, endpoint: 2800, dense: 1, alternative: 1, at30: 120, at35: 150, at40: 180, at45: 210, at50: 250 },
         // Piperidine
-        110894 => Line { kind: 2, lfa: 7200, lfb: 130000, df: 57, endpoint: 2200, dense: 1, at30: 130, at35: 160, at40: 200, at45: 240, at50: 300 },
+        110894 => Line { kind: 2, lfa: 7200, lfb: 130000, df: 57, endpoint: 2200, dense: 1, alternative: 0, at30: 130, at35: 160, at40: 200, at45: 240, at50: 300 },
         // Propionitrile
-        107120 => Line { kind: 2, lfa: 8000, lfb: 100000, df: 63, endpoint: 370, dense: 1, at30: 130, at35: 160, at40: 190, at45: 230, at50: 280 },
+        107120 => Line { kind: 2, lfa: 8000, lfb: 100000, df: 63, endpoint: 370, dense: 1, alternative: 0, at30: 130, at35: 160, at40: 190, at45: 230, at50: 280 },
         // Propyl chloroformate
-        109615 => Line { kind: 2, lfa: 5800, lfb: 170000, df: 45, endpoint: 1000, dense: 1, at30: 65535, at35: 65535, at40: 65535, at45: 65535, at50: 65535 },
+        109615 => Line { kind: 2, lfa: 5800, lfb: 170000, df: 45, endpoint: 1000, dense: 1, alternative: 0, at30: 65535, at35: 65535, at40: 65535, at45: 65535, at50: 65535 },
         // Propyleneimine
-        75558 => Line { kind: 2, lfa: 32000, lfb: 120000, df: 61, endpoint: 12000, dense: 1, at30: 120, at35: 150, at40: 180, at45: 210, at50: 250 },
+        75558 => Line { kind: 2, lfa: 32000, lfb: 120000, df: 61, endpoint: 12000, dense: 1, alternative: 1, at30: 120, at35: 150, at40: 180, at45: 210, at50: 250 },
         // Propylene oxide
-        75569 => Line { kind: 2, lfa: 93000, lfb: 130000, df: 59, endpoint: 59000, dense: 1, at30: 120, at35: 65534, at40: 65534, at45: 65534, at50: 65534 },
+        75569 => Line { kind: 2, lfa: 93000, lfb: 130000, df: 59, endpoint: 59000, dense: 1, alternative: 1, at30: 120, at35: 65534, at40: 65534, at45: 65534, at50: 65534 },
         // Sulfur trioxide
-        7446119 => Line { kind: 2, lfa: 57000, lfb: 150000, df: 26, endpoint: 1000, dense: 1, at30: 130, at35: 170, at40: 220, at45: 65534, at50: 65534 },
+        7446119 => Line { kind: 2, lfa: 57000, lfb: 150000, df: 26, endpoint: 1000, dense: 1, alternative: 1, at30: 130, at35: 170, at40: 220, at45: 65534, at50: 65534 },
         // Tetramethyllead
-        75741 => Line { kind: 2, lfa: 11000, lfb: 290000, df: 24, endpoint: 400, dense: 1, at30: 65535, at35: 65535, at40: 65535, at45: 65535, at50: 65535 },
+        75741 => Line { kind: 2, lfa: 11000, lfb: 290000, df: 24, endpoint: 400, dense: 1, alternative: 1, at30: 65535, at35: 65535, at40: 65535, at45: 65535, at50: 65535 },
         // Tetranitromethane
-        509148 => Line { kind: 2, lfa: 4500, lfb: 220000, df: 30, endpoint: 400, dense: 1, at30: 130, at35: 170, at40: 220, at45: 280, at50: 350 },
+        509148 => Line { kind: 2, lfa: 4500, lfb: 220000, df: 30, endpoint: 400, dense: 1, alternative: 0, at30: 130, at35: 170, at40: 220, at45: 280, at50: 350 },
         // Titanium tetrachloride
-        7550450 => Line { kind: 2, lfa: 4800, lfb: 210000, df: 28, endpoint: 2000, dense: 1, at30: 130, at35: 160, at40: 200, at45: 260, at50: 320 },
+        7550450 => Line { kind: 2, lfa: 4800, lfb: 210000, df: 28, endpoint: 2000, dense: 1, alternative: 0, at30: 130, at35: 160, at40: 200, at45: 260, at50: 320 },
         // Toluene 2,4-diisocyanate
-        584849 => Line { kind: 2, lfa: 6, lfb: 160000, df: 40, endpoint: 700, dense: 0, at30: 160, at35: 240, at40: 360, at45: 530, at50: 770 },
+        584849 => Line { kind: 2, lfa: 6, lfb: 160000, df: 40, endpoint: 700, dense: 0, alternative: 0, at30: 160, at35: 240, at40: 360, at45: 530, at50: 770 },
         // Toluene 2,6-diisocyanate
-        91087 => Line { kind: 2, lfa: 18, lfb: 160000, df: 40, endpoint: 700, dense: 0, at30: 65535, at35: 65535, at40: 65535, at45: 65535, at50: 65535 },
+        91087 => Line { kind: 2, lfa: 18, lfb: 160000, df: 40, endpoint: 700, dense: 0, alternative: 0, at30: 65535, at35: 65535, at40: 65535, at45: 65535, at50: 65535 },
         // Toluene diisocyanate (unspecified isomer)
-        26471625 => Line { kind: 2, lfa: 6, lfb: 160000, df: 40, endpoint: 700, dense: 0, at30: 160, at35: 240, at40: 360, at45: 530, at50: 770 },
+        26471625 => Line { kind: 2, lfa: 6, lfb: 160000, df: 40, endpoint: 700, dense: 0, alternative: 0, at30: 160, at35: 240, at40: 360, at45: 530, at50: 770 },
         // Trimethylchlorosilane
-        75774 => Line { kind: 2, lfa: 61000, lfb: 180000, df: 57, endpoint: 5000, dense: 1, at30: 120, at35: 140, at40: 170, at45: 200, at50: 230 },
+        75774 => Line { kind: 2, lfa: 61000, lfb: 180000, df: 57, endpoint: 5000, dense: 1, alternative: 1, at30: 120, at35: 140, at40: 170, at45: 200, at50: 230 },
         // Vinyl acetate monomer
-        108054 => Line { kind: 2, lfa: 26000, lfb: 150000, df: 53, endpoint: 26000, dense: 1, at30: 120, at35: 150, at40: 190, at45: 230, at50: 270 },
-        _ => Line { kind: 0, lfa: 0, lfb: 0, df: 0, endpoint: 0, dense: 0, at30: 65535, at35: 65535, at40: 65535, at45: 65535, at50: 65535 },
+        108054 => Line { kind: 2, lfa: 26000, lfb: 150000, df: 53, endpoint: 26000, dense: 1, alternative: 1, at30: 120, at35: 150, at40: 190, at45: 230, at50: 270 },
+        _ => Line { kind: 0, lfa: 0, lfb: 0, df: 0, endpoint: 0, dense: 0, alternative: 0, at30: 65535, at35: 65535, at40: 65535, at45: 65535, at50: 65535 },
     }
 }

@@ -101,13 +101,13 @@ read-is cas tenths = go (among cas (map solutionCas b3)) (eqb tenths 0) (lowest 
         ≡ unlessZero (elim l as (λ _. Toxic) [ true ↦ lineRead x | false ↦ NotListed ]) zero
     go false zero x r = refl
     go true true none r = refl
-    go true true (found (solution c t e a d p)) r = refl
+    go true true (found (solution c t e a d p alt)) r = refl
     go true false none r = one (ltb (highest (linesOf cas b3)) tenths)
       where
         one : (b : Bool) → unlessOut b OutOfRange ≡ OutOfRange
         one true = refl
         one false = refl
-    go true false (found (solution c t e a d p)) r =
+    go true false (found (solution c t e a d p alt)) r =
         rw (le-ltb (highest (linesOf cas b3)) tenths (omega (arith, r .not-below, under-highest (linesOf cas b3) (r .stands))), unlessOut)
 
 -- B-3 knows no pure gas or liquid
@@ -117,7 +117,7 @@ solved cas tenths n = go (among cas (map solutionCas b3)) (lowest tenths (linesO
   where
     go : (l : Bool) (x : Found) → (kindOf (elim l as (λ _. Toxic) [ true ↦ lineRead x | false ↦ NotListed ]) ≡ 0 → ⊥) → 3 ≤ kindOf (elim l as (λ _. Toxic) [ true ↦ lineRead x | false ↦ NotListed ])
     go true none n = omega arith
-    go true (found (solution c t e a d p)) n = omega arith
+    go true (found (solution c t e a d p alt)) n = omega arith
     go false x n = absurd (n refl)
 
 zero-read : (t : Toxic) → (kindOf t ≡ 0 → ⊥) → OutOfRange ≡ unlessZero t true

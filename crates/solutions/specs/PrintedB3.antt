@@ -6,37 +6,37 @@ use Rattle.exhibits.specs.Printed.{SolutionLine, solution}
 use Rattle.exhibits.specs.declared.Plume.the-variants.{Neutral, Dense}
 
 -- Exhibit B-3, water solutions and oleum, in the printed order: CAS number, concentration, endpoint, LFA at 1.5 m/s, DF,
--- worst-case plume
+-- worst-case plume, alternative-case plume
 unfoldable pub b3 : List SolutionLine
 b3 =
     -- Ammonia
-    solution 7664417 300 14000 26000 55 Neutral
+    solution 7664417 300 14000 26000 55 Neutral Neutral
     -- Ammonia
-    ∷ solution 7664417 240 14000 19000 54 Neutral
+    ∷ solution 7664417 240 14000 19000 54 Neutral Neutral
     -- Ammonia
-    ∷ solution 7664417 200 14000 15000 53 Neutral
+    ∷ solution 7664417 200 14000 15000 53 Neutral Neutral
     -- Formaldehyde
-    ∷ solution 50000 370 1200 200 44 Neutral
+    ∷ solution 50000 370 1200 200 44 Neutral Neutral
     -- Hydrochloric acid
-    ∷ solution 7647010 380 3000 10000 41 Dense
+    ∷ solution 7647010 380 3000 10000 41 Dense Neutral
     -- Hydrochloric acid
-    ∷ solution 7647010 370 3000 8500 42 Dense
+    ∷ solution 7647010 370 3000 8500 42 Dense Neutral
     -- Hydrochloric acid
-    ∷ solution 7647010 360 3000 7200 42 Dense
+    ∷ solution 7647010 360 3000 7200 42 Dense Neutral
     -- Hydrochloric acid
-    ∷ solution 7647010 340 3000 4800 42 Dense
+    ∷ solution 7647010 340 3000 4800 42 Dense Neutral
     -- Hydrochloric acid
-    ∷ solution 7647010 300 3000 1600 42 Neutral
+    ∷ solution 7647010 300 3000 1600 42 Neutral Neutral
     -- Hydrofluoric acid
-    ∷ solution 7664393 700 1600 11000 39 Neutral
+    ∷ solution 7664393 700 1600 11000 39 Neutral Neutral
     -- Hydrofluoric acid
-    ∷ solution 7664393 500 1600 1400 41 Neutral
+    ∷ solution 7664393 500 1600 1400 41 Neutral Neutral
     -- Nitric acid
-    ∷ solution 7697372 900 2600 4600 33 Dense
+    ∷ solution 7697372 900 2600 4600 33 Dense Neutral
     -- Nitric acid
-    ∷ solution 7697372 850 2600 3200 33 Dense
+    ∷ solution 7697372 850 2600 3200 33 Dense Neutral
     -- Nitric acid
-    ∷ solution 7697372 800 2600 1900 33 Dense
+    ∷ solution 7697372 800 2600 1900 33 Dense Neutral
     -- Oleum - based on SO3
-    ∷ solution 8014957 300 1000 800 25 Neutral
+    ∷ solution 8014957 300 1000 800 25 Neutral Neutral
     ∷ []

@@ -12,14 +12,14 @@ use Rattle.solutions.specs.PrintedB3.{b3}
 
 -- the CAS number of a line, and its concentration
 abbrev pub solutionCas : SolutionLine → ℕ
-solutionCas (solution c t e a d p) = c
+solutionCas (solution c t e a d p alt) = c
 
 abbrev pub percentOf : SolutionLine → ℕ
-percentOf (solution c t e a d p) = t
+percentOf (solution c t e a d p alt) = t
 
--- what a line of Exhibit B-3 says: "that LFA (at 1.5 m/s) and DF", with its endpoint and its worst-case column
+-- what a line of Exhibit B-3 says: "that LFA (at 1.5 m/s) and DF", with its endpoint, its worst-case and its alternative-case column
 abbrev pub solutionIn : SolutionLine → Toxic
-solutionIn (solution c t e a d p) = OfSolution (record { lfa = a; df = d; endpoint = e; plume = p })
+solutionIn (solution c t e a d p alt) = OfSolution (record { lfa = a; df = d; endpoint = e; plume = p; alternative = alt })
 
 -- the lines of a substance, one for each concentration that is printed
 unfoldable pub linesOf : ℕ → List SolutionLine → List SolutionLine

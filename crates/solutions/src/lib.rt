@@ -16,6 +16,7 @@ fn solution_in(line: Line) -> Solution
         df: line.df,
         endpoint: line.endpoint,
         plume: exhibits::plume_from(line.dense),
+        alternative: exhibits::plume_from(line.alternative),
     }
 }
 

@@ -12,72 +12,72 @@ pub fn line_of(cas: u32, tenths: u16) -> Line
         // Ammonia
         7664417 => {
             if tenths <= 200 {
-                return Line { kind: 3, lfa: 15000, lfb: 0, df: 53, endpoint: 14000, dense: 0, at30: 65535, at35: 65535, at40: 65535, at45: 65535, at50: 65535 };
+                return Line { kind: 3, lfa: 15000, lfb: 0, df: 53, endpoint: 14000, dense: 0, alternative: 0, at30: 65535, at35: 65535, at40: 65535, at45: 65535, at50: 65535 };
             }
             if tenths <= 240 {
-                return Line { kind: 3, lfa: 19000, lfb: 0, df: 54, endpoint: 14000, dense: 0, at30: 65535, at35: 65535, at40: 65535, at45: 65535, at50: 65535 };
+                return Line { kind: 3, lfa: 19000, lfb: 0, df: 54, endpoint: 14000, dense: 0, alternative: 0, at30: 65535, at35: 65535, at40: 65535, at45: 65535, at50: 65535 };
             }
             if tenths <= 300 {
-                return Line { kind: 3, lfa: 26000, lfb: 0, df: 55, endpoint: 14000, dense: 0, at30: 65535, at35: 65535, at40: 65535, at45: 65535, at50: 65535 };
+                return Line { kind: 3, lfa: 26000, lfb: 0, df: 55, endpoint: 14000, dense: 0, alternative: 0, at30: 65535, at35: 65535, at40: 65535, at45: 65535, at50: 65535 };
             }
-            Line { kind: 4, lfa: 0, lfb: 0, df: 0, endpoint: 0, dense: 0, at30: 65535, at35: 65535, at40: 65535, at45: 65535, at50: 65535 }
+            Line { kind: 4, lfa: 0, lfb: 0, df: 0, endpoint: 0, dense: 0, alternative: 0, at30: 65535, at35: 65535, at40: 65535, at45: 65535, at50: 65535 }
         },
         // Formaldehyde
         50000 => {
             if tenths <= 370 {
-                return Line { kind: 3, lfa: 200, lfb: 0, df: 44, endpoint: 1200, dense: 0, at30: 65535, at35: 65535, at40: 65535, at45: 65535, at50: 65535 };
+                return Line { kind: 3, lfa: 200, lfb: 0, df: 44, endpoint: 1200, dense: 0, alternative: 0, at30: 65535, at35: 65535, at40: 65535, at45: 65535, at50: 65535 };
             }
-            Line { kind: 4, lfa: 0, lfb: 0, df: 0, endpoint: 0, dense: 0, at30: 65535, at35: 65535, at40: 65535, at45: 65535, at50: 65535 }
+            Line { kind: 4, lfa: 0, lfb: 0, df: 0, endpoint: 0, dense: 0, alternative: 0, at30: 65535, at35: 65535, at40: 65535, at45: 65535, at50: 65535 }
         },
         // Hydrochloric acid
         7647010 => {
             if tenths <= 300 {
-                return Line { kind: 3, lfa: 1600, lfb: 0, df: 42, endpoint: 3000, dense: 0, at30: 65535, at35: 65535, at40: 65535, at45: 65535, at50: 65535 };
+                return Line { kind: 3, lfa: 1600, lfb: 0, df: 42, endpoint: 3000, dense: 0, alternative: 0, at30: 65535, at35: 65535, at40: 65535, at45: 65535, at50: 65535 };
             }
             if tenths <= 340 {
-                return Line { kind: 3, lfa: 4800, lfb: 0, df: 42, endpoint: 3000, dense: 1, at30: 65535, at35: 65535, at40: 65535, at45: 65535, at50: 65535 };
+                return Line { kind: 3, lfa: 4800, lfb: 0, df: 42, endpoint: 3000, dense: 1, alternative: 0, at30: 65535, at35: 65535, at40: 65535, at45: 65535, at50: 65535 };
             }
             if tenths <= 360 {
-                return Line { kind: 3, lfa: 7200, lfb: 0, df: 42, endpoint: 3000, dense: 1, at30: 65535, at35: 65535, at40: 65535, at45: 65535, at50: 65535 };
+                return Line { kind: 3, lfa: 7200, lfb: 0, df: 42, endpoint: 3000, dense: 1, alternative: 0, at30: 65535, at35: 65535, at40: 65535, at45: 65535, at50: 65535 };
             }
             if tenths <= 370 {
-                return Line { kind: 3, lfa: 8500, lfb: 0, df: 42, endpoint: 3000, dense: 1, at30: 65535, at35: 65535, at40: 65535, at45: 65535, at50: 65535 };
+                return Line { kind: 3, lfa: 8500, lfb: 0, df: 42, endpoint: 3000, dense: 1, alternative: 0, at30: 65535, at35: 65535, at40: 65535, at45: 65535, at50: 65535 };
             }
             if tenths <= 380 {
-                return Line { kind: 3, lfa: 10000, lfb: 0, df: 41, endpoint: 3000, dense: 1, at30: 65535, at35: 65535, at40: 65535, at45: 65535, at50: 65535 };
+                return Line { kind: 3, lfa: 10000, lfb: 0, df: 41, endpoint: 3000, dense: 1, alternative: 0, at30: 65535, at35: 65535, at40: 65535, at45: 65535, at50: 65535 };
             }
-            Line { kind: 4, lfa: 0, lfb: 0, df: 0, endpoint: 0, dense: 0, at30: 65535, at35: 65535, at40: 65535, at45: 65535, at50: 65535 }
+            Line { kind: 4, lfa: 0, lfb: 0, df: 0, endpoint: 0, dense: 0, alternative: 0, at30: 65535, at35: 65535, at40: 65535, at45: 65535, at50: 65535 }
         },
         // Hydrofluoric acid
         7664393 => {
             if tenths <= 500 {
-                return Line { kind: 3, lfa: 1400, lfb: 0, df: 41, endpoint: 1600, dense: 0, at30: 65535, at35: 65535, at40: 65535, at45: 65535, at50: 65535 };
+                return Line { kind: 3, lfa: 1400, lfb: 0, df: 41, endpoint: 1600, dense: 0, alternative: 0, at30: 65535, at35: 65535, at40: 65535, at45: 65535, at50: 65535 };
             }
             if tenths <= 700 {
-                return Line { kind: 3, lfa: 11000, lfb: 0, df: 39, endpoint: 1600, dense: 0, at30: 65535, at35: 65535, at40: 65535, at45: 65535, at50: 65535 };
+                return Line { kind: 3, lfa: 11000, lfb: 0, df: 39, endpoint: 1600, dense: 0, alternative: 0, at30: 65535, at35: 65535, at40: 65535, at45: 65535, at50: 65535 };
             }
-            Line { kind: 4, lfa: 0, lfb: 0, df: 0, endpoint: 0, dense: 0, at30: 65535, at35: 65535, at40: 65535, at45: 65535, at50: 65535 }
+            Line { kind: 4, lfa: 0, lfb: 0, df: 0, endpoint: 0, dense: 0, alternative: 0, at30: 65535, at35: 65535, at40: 65535, at45: 65535, at50: 65535 }
         },
         // Nitric acid
         7697372 => {
             if tenths <= 800 {
-                return Line { kind: 3, lfa: 1900, lfb: 0, df: 33, endpoint: 2600, dense: 1, at30: 65535, at35: 65535, at40: 65535, at45: 65535, at50: 65535 };
+                return Line { kind: 3, lfa: 1900, lfb: 0, df: 33, endpoint: 2600, dense: 1, alternative: 0, at30: 65535, at35: 65535, at40: 65535, at45: 65535, at50: 65535 };
             }
             if tenths <= 850 {
-                return Line { kind: 3, lfa: 3200, lfb: 0, df: 33, endpoint: 2600, dense: 1, at30: 65535, at35: 65535, at40: 65535, at45: 65535, at50: 65535 };
+                return Line { kind: 3, lfa: 3200, lfb: 0, df: 33, endpoint: 2600, dense: 1, alternative: 0, at30: 65535, at35: 65535, at40: 65535, at45: 65535, at50: 65535 };
             }
             if tenths <= 900 {
-                return Line { kind: 3, lfa: 4600, lfb: 0, df: 33, endpoint: 2600, dense: 1, at30: 65535, at35: 65535, at40: 65535, at45: 65535, at50: 65535 };
+                return Line { kind: 3, lfa: 4600, lfb: 0, df: 33, endpoint: 2600, dense: 1, alternative: 0, at30: 65535, at35: 65535, at40: 65535, at45: 65535, at50: 65535 };
             }
-            Line { kind: 4, lfa: 0, lfb: 0, df: 0, endpoint: 0, dense: 0, at30: 65535, at35: 65535, at40: 65535, at45: 65535, at50: 65535 }
+            Line { kind: 4, lfa: 0, lfb: 0, df: 0, endpoint: 0, dense: 0, alternative: 0, at30: 65535, at35: 65535, at40: 65535, at45: 65535, at50: 65535 }
         },
         // Oleum - based on SO3
         8014957 => {
             if tenths <= 300 {
-                return Line { kind: 3, lfa: 800, lfb: 0, df: 25, endpoint: 1000, dense: 0, at30: 65535, at35: 65535, at40: 65535, at45: 65535, at50: 65535 };
+                return Line { kind: 3, lfa: 800, lfb: 0, df: 25, endpoint: 1000, dense: 0, alternative: 0, at30: 65535, at35: 65535, at40: 65535, at45: 65535, at50: 65535 };
             }
-            Line { kind: 4, lfa: 0, lfb: 0, df: 0, endpoint: 0, dense: 0, at30: 65535, at35: 65535, at40: 65535, at45: 65535, at50: 65535 }
+            Line { kind: 4, lfa: 0, lfb: 0, df: 0, endpoint: 0, dense: 0, alternative: 0, at30: 65535, at35: 65535, at40: 65535, at45: 65535, at50: 65535 }
         },
-        _ => Line { kind: 0, lfa: 0, lfb: 0, df: 0, endpoint: 0, dense: 0, at30: 65535, at35: 65535, at40: 65535, at45: 65535, at50: 65535 },
+        _ => Line { kind: 0, lfa: 0, lfb: 0, df: 0, endpoint: 0, dense: 0, alternative: 0, at30: 65535, at35: 65535, at40: 65535, at45: 65535, at50: 65535 },
     }
 }
