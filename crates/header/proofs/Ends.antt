@@ -10,9 +10,11 @@ use lib.ListN.{length}
 use borrow.Author.Tests.{lt-ltb, le-ltb, ltb-false, eqb-true, not-false}
 use Rattle.search.specs.Places.{either}
 use Rattle.buffer.specs.Numbers.{byteAt, twoAt, fourAt}
+use Rattle.refusals.specs.declared.Refusal.{Refusal}
 use Rattle.refusals.specs.declared.Refusal.the-variants as refusal
+use Rattle.header.specs.declared.Header.{Header}
 use Rattle.header.specs.declared.Header.the-variants as header
-use Rattle.header.specs.Header.{badLength, badVersion, badCount, badBuffer, headerOf, Fitting}
+use Rattle.header.specs.Header.{badLength, badVersion, badCount, badBuffer, headerOf, headerRefusal, Fitting}
 
 module _ (bytes : List ℕ) where
   pub length-short : length bytes < 7 → true ≡ badLength bytes
@@ -82,3 +84,7 @@ module _ (bytes : List ℕ) where
             let a : twoAt bytes 5 ≤ 2_000 = ltb-false 2_000 (twoAt bytes 5) p in
             let b : length bytes ≡ 7 + 24 * twoAt bytes 5 = eqb-true (length bytes) (7 + 24 * twoAt bytes 5) (not-false _ q) in
             record { cards = rw w a; register = rw w b; answers = z }
+
+-- the refusal that is handed on
+pub refusal-given : (h : Header) (r : Refusal) → h ≡ header.Refused r → r ≡ headerRefusal h
+refusal-given h r e = sym (ap headerRefusal e)

@@ -17,10 +17,11 @@ use Rattle.exhibits.specs.declared.Toxic.{Toxic}
 use Rattle.scenario.specs.declared.Tenths.{Tenths}
 use Rattle.scenario.specs.declared.Tenths.the-variants.{Temperature, Concentration}
 use Rattle.fields.specs.declared.Fields.{Fields}
+use Rattle.refusals.specs.declared.Refusal.{Refusal}
 use Rattle.refusals.specs.declared.Refusal.the-variants as refusal
 use Rattle.ranges.specs.declared.Bounds.{Bounds}
 use Rattle.ranges.specs.declared.Bounds.the-variants as bounds
-use Rattle.ranges.specs.Ranges.{badPounds, badArea, badWall, badHeat, signed, tenthsOf, badTenths, isOutOfRange, boundsIf, boundsOf}
+use Rattle.ranges.specs.Ranges.{badPounds, badArea, badWall, badHeat, signed, tenthsOf, badTenths, isOutOfRange, boundsIf, boundsOf, boundsRefusal}
 use Rattle.ranges.specs.Laws.{pounds-within}
 
 -- the area
@@ -147,3 +148,7 @@ module _ (f : Fields) (x : Toxic) where
 
       pub bounds-within : k ≡ false → (o : Bool) → o ≡ isOutOfRange x → o ≡ false → bounds.Within t ≡ boundsOf x f
       bounds-within u o n z = behind-heat u o false n z
+
+-- the refusal that is handed on
+pub refusal-given : (found : Bounds) (r : Refusal) → found ≡ bounds.Refused r → r ≡ boundsRefusal found
+refusal-given found r e = sym (ap boundsRefusal e)

@@ -24,3 +24,6 @@ numberOf refusal.Wall = 14
 numberOf refusal.Temperature = 15
 -- A3
 numberOf refusal.Concentration = 16
+-- A6
+numberOf refusal.SuppliedRate = 17
+numberOf refusal.SuppliedDuration = 18

@@ -1,4 +1,4 @@
-// Why a register is sent back, or a text of comma lines.
+// Why a register is sent back, a text of comma lines, or a question for a likely scenario.
 ghost use mathlib.Core.Path.{_≡_};
 ghost use Rattle.refusals.specs.Numbers.{numberOf};
 
@@ -20,6 +20,8 @@ pub enum Refusal {
     Wall,
     Temperature,
     Concentration,
+    SuppliedRate,
+    SuppliedDuration,
 }
 
 // The number of a refusal.
@@ -43,5 +45,7 @@ pub fn number(refusal: Refusal) -> u8
         Refusal::Wall => 14,
         Refusal::Temperature => 15,
         Refusal::Concentration => 16,
+        Refusal::SuppliedRate => 17,
+        Refusal::SuppliedDuration => 18,
     }
 }
