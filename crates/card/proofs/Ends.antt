@@ -2,7 +2,7 @@
 -- what the definition says of that case.
 -- Assumes nothing.
 use Prim.Native.Nat.{ℕ}
-use mathlib.Core.Path.{_≡_, _∙_, ap, sym, subst}
+use mathlib.Core.Path.{_≡_, _∙_, ap, sym}
 use mathlib.Core.List.{List}
 use Rattle.units.specs.declared.PoundsPerMinute.{PoundsPerMinute}
 use Rattle.units.specs.declared.Miles.{Miles}
@@ -11,12 +11,10 @@ use Rattle.units.specs.declared.Reading.the-variants as reading
 use Rattle.scenario.specs.declared.ToxicCard.{ToxicCard}
 use Rattle.scenario.specs.declared.Scenario.{Scenario}
 use Rattle.scenario.specs.declared.Planned.{Planned}
-use Rattle.scenario.specs.Plan.{Limits}
 use Rattle.fields.specs.declared.Fields.{Fields}
 use Rattle.fields.specs.Layout.{fieldsOf}
 use Rattle.meaning.specs.declared.Meaning.{Meaning}
-use Rattle.meaning.specs.declared.Meaning.the-variants as meaning
-use Rattle.meaning.specs.Reading.{meaningOf, MeaningLimits}
+use Rattle.meaning.specs.Reading.{meaningOf}
 use Rattle.card.specs.declared.Class.the-variants as class
 use Rattle.card.specs.declared.Answered.{Answered}
 use Rattle.card.specs.declared.Answered.the-variants as answered
@@ -42,6 +40,3 @@ card-end bytes last f m w r e g q h =
     h
     ∙ (ap (λ y. answerFor y (f .number)) (sym q ∙ g)
     ∙ ap (λ (x : Fields). answerFor (meaningOf x last) (x .number)) e)
-
-pub card-limits : (m : Meaning) (card : ToxicCard) → MeaningLimits m → m ≡ meaning.Toxic card → Limits card
-card-limits m card l e = subst MeaningLimits e l

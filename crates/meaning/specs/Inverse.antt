@@ -1,12 +1,13 @@
 -- What a meaning tells of the fields that it was read from.
 -- Assumes nothing.
 use Prim.Native.Nat.{ℕ}
-use mathlib.Core.Path.{_≡_, _∙_, refl, sym, ap}
+use mathlib.Core.Path.{_≡_, _∙_, refl, sym, ap, subst}
 use mathlib.Core.Bool.{Bool, true, false, not}
 use Rattle.search.specs.Laws.{clash}
 use Rattle.exhibits.specs.declared.Toxic.{Toxic}
 use Rattle.scenario.specs.declared.Tenths.{Tenths}
 use Rattle.scenario.specs.declared.ToxicCard.{ToxicCard}
+use Rattle.scenario.specs.Plan.{Limits}
 use Rattle.blast.specs.Blast.{isFlammable}
 use Rattle.fields.specs.declared.Fields.{Fields}
 use Rattle.refusals.specs.declared.Refusal.{Refusal}
@@ -25,7 +26,7 @@ use Rattle.ranges.specs.Ranges.{badPounds, badArea, badWall, tenthsOf, badTenth
 use Rattle.meaning.specs.declared.FlammableCard.{FlammableCard}
 use Rattle.meaning.specs.declared.Meaning.{Meaning}
 use Rattle.meaning.specs.declared.Meaning.the-variants as meaning
-use Rattle.meaning.specs.Reading.{badNumber, substanceOf, toxicBounded, isListed, meaningIf, toxicMeaning, flammableOf, shaped, meaningOf}
+use Rattle.meaning.specs.Reading.{badNumber, substanceOf, toxicBounded, isListed, meaningIf, toxicMeaning, flammableOf, shaped, meaningOf, MeaningLimits}
 
 -- what a toxic card tells of its fields
 pub record ToxicFrom (f : Fields) (card : ToxicCard) : Type 0 where
@@ -167,3 +168,7 @@ unfolding meaningOf
 flammable-from f last e =
     flammable-shaped f (shapeOf f) refl
     (passed (badNumber (f .number) last) refusal.Number (shaped (shapeOf f) f) e not-refused-flammable)
+
+-- a toxic meaning keeps the limits that its reading established
+pub card-limits : (m : Meaning) (card : ToxicCard) → MeaningLimits m → m ≡ meaning.Toxic card → Limits card
+card-limits m card l e = subst MeaningLimits e l

@@ -52,7 +52,7 @@ fn is_listed(entry: Toxic) -> bool
 }
 
 // A toxic card's meaning: its substance is listed and its numbers are in range.
-fn toxic_meaning(f: Fields, standing: Standing) -> Meaning
+pub fn toxic_meaning(f: Fields, standing: Standing) -> Meaning
     ensures { λ r. ⌜ r ≡ toxicMeaning (substanceOf f) f standing ⌝ }
     ensures { λ r. ⌜ MeaningLimits r ⌝ }
 {

@@ -1,1 +1,2 @@
 pub mod WhichTable
+pub mod Laws

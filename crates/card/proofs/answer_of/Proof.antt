@@ -1,4 +1,5 @@
-use Rattle.card.proofs.Ends.{card-limits, card-end}
+use Rattle.meaning.specs.Inverse.{card-limits}
+use Rattle.card.proofs.Ends.{card-end}
 use borrow.Author.Needs.{needs}
 use Rattle.card.proofs.answer_of.Statement.{statement}
 use Rattle.card.proofs.answer_of.Tie as tie
