@@ -1,2 +1,5 @@
 pub mod Floats
 pub mod Line
+pub mod Rows
+pub mod Numbers
+pub mod Reads

@@ -24,6 +24,7 @@ module _ (r0 d0 r1 d1 : ℕ) (rows : r0 < r1) (last : r1 ≤ 2 ^ 53) (entries : 
       (mul-le-mul-left (d1 - d0) (omega (arith, s .most)))
       (omega arith)
 
+  -- and the lower entry with it, each step the nearest float
   line-is : (r : ℕ) → r0 ≤ r → (h : r ≤ r1)
       → lineBetween (rowOf r0 d0) (rowOf r1 d1) (floatOf r) ≡ near (d0 * part r h .under + part r h .over) (part r h .under)
   line-is r l h =
@@ -34,6 +35,7 @@ module _ (r0 d0 r1 d1 : ℕ) (rows : r0 < r1) (last : r1 ≤ 2 ^ 53) (entries : 
       ∙ rw (div-whole (whole (r - r0) (omega arith)) (whole (r1 - r0) (omega arith)) (omega arith), mul-whole (whole (d1 - d0) (omega arith)) (share r h .is))
       (add-whole (whole d0 (omega arith)) (part r h .is))
 
+  -- it lies between the two entries
   pub line-between : (r : ℕ) → r0 ≤ r → r ≤ r1 → Between d0 (lineBetween (rowOf r0 d0) (rowOf r1 d1) (floatOf r)) d1
   line-between r l h =
       let p = part r h in
@@ -48,6 +50,7 @@ module _ (r0 d0 r1 d1 : ℕ) (rows : r0 < r1) (last : r1 ≤ 2 ^ 53) (entries : 
   pub line-high : (r : ℕ) → r0 ≤ r → r ≤ r1 → T (le (lineBetween (rowOf r0 d0) (rowOf r1 d1) (floatOf r)) (floatOf d1))
   line-high r l h = at-most (line-between r l h) d1 (le-refl d1) (omega arith)
 
+  -- a larger rate never gives less
   pub line-mono : (r s : ℕ) → r0 ≤ r → r ≤ s → s ≤ r1
       → T (le (lineBetween (rowOf r0 d0) (rowOf r1 d1) (floatOf r)) (lineBetween (rowOf r0 d0) (rowOf r1 d1) (floatOf s)))
   line-mono r s l h m =
