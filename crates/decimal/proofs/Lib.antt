@@ -1,1 +1,1 @@
-mod Turns
+pub mod Turns

@@ -20,7 +20,7 @@ set-behind (x ∷ s) b at k v h =
     ∙ ap (λ (l : List ℕ). sets l (suc at) s) (set-comm b at k x v (λ e. omega arith))
 
 -- a text that ends in one more byte: that byte may be written first
-last-first : (s b : List ℕ) (at v : ℕ) → sets b at (s ++ (v ∷ [])) ≡ sets (set b (at + length s) v) at s
+pub last-first : (s b : List ℕ) (at v : ℕ) → sets b at (s ++ (v ∷ [])) ≡ sets (set b (at + length s) v) at s
 last-first s b at v = sym (sets-append s (v ∷ []) b at) ∙ set-behind s b at (at + length s) v (omega arith)
 
 -- digits are counted one at a time
