@@ -61,7 +61,7 @@ const ONE_BYTE: u32 = 255;
 const TWO_BYTES: u32 = 65_535;
 
 // The number of the field that starts at a place. A comma has to end it, since a number is never the last field.
-fn take_field(line: &[u8], at: usize, form: Form) -> Taken
+pub fn take_field(line: &[u8], at: usize, form: Form) -> Taken
     ensures { λ r. ⌜ r ≡ takenAt form (now (line .entry)) at ⌝ }
 {
     let end = pieces::end_of(line, at, b',');
