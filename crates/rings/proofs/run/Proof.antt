@@ -1,17 +1,10 @@
 -- `rings::run` is safe: what it lists is a part of the input, and what it prints a part of the text.
 -- Assumes nothing.
-use Prim.Native.Nat.{ℕ, _≤_}
-use mathlib.Core.Path.{_≡_, subst}
-use Rattle.rings.specs.declared.Input.{Input}
-use Rattle.rings.specs.declared.Input.the-variants as input
-use Rattle.rings.specs.Input.{Within}
+use Rattle.input.specs.Input.{read-part}
 use Rattle.listing.specs.Laws.{text-part, part-length}
 use borrow.Author.Needs.{needs}
 use Rattle.rings.proofs.run.Statement.{statement}
 use Rattle.rings.proofs.run.Tie as tie
-
-read-part : (room n : ℕ) {x : Input} → x ≡ input.Bytes n → Within room x → n ≤ room
-read-part room n e w = subst (Within room) e w
 
 read-all-requires : tie.Need-read-all-requires
 read-all-requires c κs = search needs

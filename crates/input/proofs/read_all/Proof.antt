@@ -1,11 +1,11 @@
--- `rings::read_all` meets its contract: it reads into what is left of the buffer, and each turn but the last leaves less.
+-- `input::read_all` meets its contract: it reads into what is left of the buffer, and each turn but the last leaves less.
 -- Assumes nothing.
 use Prim.Native.Nat.{_≤_, _-_}
 use mathlib.Core.Path.{_≡_}
 use lib.ListN.{length}
 use borrow.Author.Needs.{needs}
-use Rattle.rings.proofs.read_all.Statement.{statement}
-use Rattle.rings.proofs.read_all.Tie as tie
+use Rattle.input.proofs.read_all.Statement.{statement}
+use Rattle.input.proofs.read_all.Tie as tie
 
 abbrev Inv-loop : tie.InvT-loop
 Inv-loop buffer₀ done₀ buffer done = (done ≤ length buffer) × (length buffer ≡ length buffer₀)
