@@ -60,7 +60,7 @@ fn put_question(out: &mut [u8], question: Question) -> usize
 // The listing of any text, at the start of a lent buffer; behind it the buffer stays as it was.
 pub fn list(text: &[u8], out: &mut [u8; 128]) -> usize
     ensures { λ r. ⌜ Wrote (now (out .entry)) (now (out .exit)) 0 r (likelyListing (now (text .entry))) ⌝ }
-    ensures { λ r. ⌜ r ≤ 128 ⌝ }
+    ensures { λ r. ⌜ r ≤ length (now (out .exit)) ⌝ }
 {
     if LONGEST < text.len() {
         return closing::put_too_long(out, 0);
