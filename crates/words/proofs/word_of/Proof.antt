@@ -1,7 +1,7 @@
-use Rattle.rings_c.proofs.Ends.{none-word, card-word}
+use Rattle.words.proofs.Ends.{none-word, card-word}
 use borrow.Author.Needs.{needs}
-use Rattle.rings_c.proofs.word_of.Statement.{statement}
-use Rattle.rings_c.proofs.word_of.Tie as tie
+use Rattle.words.proofs.word_of.Statement.{statement}
+use Rattle.words.proofs.word_of.Tie as tie
 
 enum-told : tie.Need-enum-told
 enum-told c = search needs

@@ -1,9 +1,9 @@
--- `rings_c::tell` meets its contract: the outcome decides the result and the two words.
+-- `words::tell` meets its contract: the outcome decides the result and the two words.
 -- Assumes nothing.
-use Rattle.rings_c.proofs.Ends.{accepted-code, accepted-word, refused-code, refused-word}
+use Rattle.words.proofs.Ends.{accepted-code, accepted-word, refused-code, refused-word}
 use borrow.Author.Needs.{needs}
-use Rattle.rings_c.proofs.tell.Statement.{statement}
-use Rattle.rings_c.proofs.tell.Tie as tie
+use Rattle.words.proofs.tell.Statement.{statement}
+use Rattle.words.proofs.tell.Tie as tie
 
 enum-known-outcome : tie.Need-enum-known-outcome
 enum-known-outcome c = search needs

@@ -1,9 +1,9 @@
--- `rings_c::conversion_at` meets its contract: the bytes, or the place.
+-- `words::conversion_at` meets its contract: the bytes, or the place.
 -- Assumes nothing.
-use Rattle.rings_c.proofs.Ends.{bytes-at, refusal-at}
+use Rattle.words.proofs.Ends.{bytes-at, refusal-at}
 use borrow.Author.Needs.{needs}
-use Rattle.rings_c.proofs.conversion_at.Statement.{statement}
-use Rattle.rings_c.proofs.conversion_at.Tie as tie
+use Rattle.words.proofs.conversion_at.Statement.{statement}
+use Rattle.words.proofs.conversion_at.Tie as tie
 
 enum-known-converted : tie.Need-enum-known-converted
 enum-known-converted c = search needs

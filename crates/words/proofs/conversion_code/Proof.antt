@@ -1,9 +1,9 @@
--- `rings_c::conversion_code` meets its contract: 0, or the number of the refusal.
+-- `words::conversion_code` meets its contract: 0, or the number of the refusal.
 -- Assumes nothing.
-use Rattle.rings_c.proofs.Ends.{bytes-code, refusal-code}
+use Rattle.words.proofs.Ends.{bytes-code, refusal-code}
 use borrow.Author.Needs.{needs}
-use Rattle.rings_c.proofs.conversion_code.Statement.{statement}
-use Rattle.rings_c.proofs.conversion_code.Tie as tie
+use Rattle.words.proofs.conversion_code.Statement.{statement}
+use Rattle.words.proofs.conversion_code.Tie as tie
 
 enum-told : tie.Need-enum-told
 enum-told c = search needs
