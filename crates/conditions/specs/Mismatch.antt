@@ -28,7 +28,7 @@ use Rattle.solutions.specs.SolutionLaws.{Says, a-line, out-of-range, not-listed
 use Rattle.rules.specs.Rules.{larger, closest}
 use Rattle.release.specs.declared.Containment.{Containment}
 use Rattle.release.specs.declared.Containment.the-variants.{Open, Dike, Building, ShedWithDoors}
-use Rattle.release.specs.Pool.{beyondDike}
+use Rattle.pool_area.specs.Pool.{beyondDike}
 use Rattle.which_table.specs.declared.State.{State}
 use Rattle.scenario.specs.declared.Tenths.{Tenths}
 use Rattle.scenario.specs.declared.Tenths.the-variants.{Temperature, Concentration}

@@ -11,7 +11,7 @@ use Rattle.search.specs.Laws.{clash}
 use Rattle.dispersion.specs.declared.Ground.{Ground}
 use Rattle.release.specs.declared.Containment.{Containment}
 use Rattle.release.specs.declared.Containment.the-variants.{Building, ShedWithDoors}
-use Rattle.release.specs.Laws.{Looser, open-open, dike-dike, building-building, shed-shed}
+use Rattle.pool_area.specs.Laws.{Looser, open-open, dike-dike, building-building, shed-shed}
 use Rattle.which_table.specs.declared.State.{State}
 use Rattle.fields.specs.declared.Fields.{Fields}
 use Rattle.refusals.specs.declared.Refusal.{Refusal}

@@ -20,7 +20,8 @@ use Rattle.rules.specs.Rules.{answered, apart, byRange, byRow, closest, closest
 use Rattle.dispersion.specs.Tables.{readIn, readingOf, tables}
 use Rattle.blast.specs.Printed13.{quantities, table13}
 use Rattle.blast.specs.Blast.{blastReading, entryAt, isFlammable, rowOf}
-use Rattle.release.specs.Pool.{atMostTenMinutes, dikedArea, poolArea, poolRate}
+use Rattle.release.specs.Rates.{atMostTenMinutes, poolRate}
+use Rattle.pool_area.specs.Pool.{dikedArea, poolArea}
 use Rattle.factors.specs.Factors.{columnOf}
 use Rattle.which_table.specs.WhichTable.{tableOf}
 use Rattle.scenario.specs.Plan.{planOf, poolOf, vaporOf}

@@ -1,2 +1,2 @@
-pub mod Pool
+pub mod Rates
 pub mod Laws

@@ -1,10 +1,10 @@
-// Pool areas, release rates and durations: the functions that make and open pounds, square feet and pounds per minute.
+// What holds a spill, release rates and durations: the functions that make and open pounds, square feet and pounds per minute.
 use units::Pounds;
 use units::PoundsPerMinute;
 use units::SquareFeet;
 ghost use mathlib.Core.Path.{_≡_};
 ghost use Prim.Native.Nat.{_*_, _≤_};
-ghost use Rattle.release.specs.Pool.{fullArea, dikedArea, poolArea, gasRate, poolRate, atMostTenMinutes, beyondDike, isBuilding};
+ghost use Rattle.release.specs.Rates.{gasRate, poolRate, atMostTenMinutes, isBuilding};
 
 // A dike around a vessel: the area inside it, and its wall in hundredths of a foot.
 pub struct Dike {
@@ -58,57 +58,6 @@ pub fn no_rate() -> PoundsPerMinute
     PoundsPerMinute(0)
 }
 
-fn full_area(quantity: Pounds, df: u8) -> u64
-    ensures { λ r. ⌜ r ≡ fullArea (quantity .0) df ⌝ }
-{
-    let pounds = quantity.0;
-    (pounds as u64) * (df as u64)
-}
-
-fn smaller(a: u64, b: u64) -> u64
-    ensures { λ r. ⌜ r ≡ Prim.Native.Nat.min a b ⌝ }
-{
-    if a <= b { a } else { b }
-}
-
-// What an overflowing dike's pool covers, in whole hundredths: the closed form that the law `diked-closed` has.
-fn diked_area(quantity: Pounds, df: u8, dike: Dike) -> u64
-    ensures { λ r. ⌜ r ≡ dikedArea (fullArea (quantity .0) df) (dike .area .0) (dike .wall) ⌝ }
-{
-    let full = full_area(quantity, df);
-    let area = dike.area.0;
-    let wall = dike.wall as u64;
-    if full <= area {
-        return full;
-    }
-    let held = 10 * (area * wall) / 33;
-    if full <= held {
-        return area;
-    }
-    if held <= area {
-        return full;
-    }
-    area + (full - held)
-}
-
-// The area of the pool that this quantity makes.
-pub fn pool_area(quantity: Pounds, df: u8, containment: Containment) -> SquareFeet
-    ensures { λ r. ⌜ r .0 ≡ poolArea (quantity .0) df containment ⌝ }
-{
-    match containment {
-        Containment::Open => SquareFeet(full_area(quantity, df)),
-        Containment::Dike(dike) => SquareFeet(diked_area(quantity, df, dike)),
-        Containment::Building(building) => {
-            let floor = building.floor.0;
-            SquareFeet(smaller(floor, full_area(quantity, df)))
-        }
-        Containment::ShedWithDoors(shed) => {
-            let floor = shed.floor.0;
-            SquareFeet(smaller(floor, full_area(quantity, df)))
-        }
-    }
-}
-
 // A gas leaves within ten minutes; a building holds some of it back.
 pub fn gas_rate(quantity: Pounds, inside: bool) -> PoundsPerMinute
     ensures { λ r. ⌜ r .0 ≡ gasRate (quantity .0) inside ⌝ }
@@ -144,21 +93,6 @@ pub fn at_most_ten_minutes(quantity: Pounds, rate: PoundsPerMinute) -> bool
 {
     let pounds = quantity.0;
     100 * (pounds as u64) <= rate.0
-}
-
-// Whether the containment is a dike that the full area goes beyond.
-pub fn beyond_dike(quantity: Pounds, df: u8, containment: Containment) -> bool
-    ensures { λ r. ⌜ r ≡ beyondDike (quantity .0) df containment ⌝ }
-{
-    match containment {
-        Containment::Open => false,
-        Containment::Dike(dike) => {
-            let area = dike.area.0;
-            area < full_area(quantity, df)
-        }
-        Containment::Building(_) => false,
-        Containment::ShedWithDoors(_) => false,
-    }
 }
 
 // Whether the containment is a building, with the factors of one.

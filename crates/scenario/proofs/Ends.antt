@@ -19,7 +19,8 @@ use Rattle.exhibits.specs.declared.Toxic.{Toxic}
 use Rattle.release.specs.declared.Containment.{Containment}
 use Rattle.units.specs.declared.PoundsPerMinute.{PoundsPerMinute}
 use Rattle.units.specs.declared.SquareFeet.{SquareFeet}
-use Rattle.release.specs.Pool.{poolArea, gasRate, poolRate, atMostTenMinutes, isBuilding}
+use Rattle.release.specs.Rates.{gasRate, poolRate, atMostTenMinutes, isBuilding}
+use Rattle.pool_area.specs.Pool.{poolArea}
 use Rattle.which_table.specs.declared.State.{State}
 use Rattle.which_table.specs.declared.State.the-variants as state
 use Rattle.which_table.proofs.State.{the-type}

@@ -12,8 +12,10 @@ use Rattle.exhibits.specs.declared.Gas as gases
 use Rattle.exhibits.specs.declared.Liquid as liquids
 use Rattle.release.specs.declared.Containment.{Containment}
 use Rattle.release.specs.declared.Containment.the-variants.{Open, Dike, Building, ShedWithDoors}
-use Rattle.release.specs.Pool.{gasRate, beyondDike, isBuilding}
-use Rattle.release.specs.Laws.{Looser, open-open, dike-dike, building-building, shed-shed, area-mono, gas-mono, pool-mono}
+use Rattle.release.specs.Rates.{gasRate, isBuilding}
+use Rattle.pool_area.specs.Pool.{beyondDike}
+use Rattle.release.specs.Laws.{gas-mono, pool-mono}
+use Rattle.pool_area.specs.Laws.{Looser, open-open, dike-dike, building-building, shed-shed, area-mono}
 use Rattle.which_table.specs.declared.State.{State}
 use Rattle.which_table.specs.declared.State.the-variants.{Gas, Pressurized, Refrigerated, Liquid, Solution}
 use Rattle.scenario.specs.declared.ToxicCard.{ToxicCard}

@@ -12,7 +12,8 @@ use Rattle.exhibits.specs.declared.Liquid as liquids
 use Rattle.exhibits.specs.declared.Solution as solutions
 use Rattle.release.specs.declared.Containment.{Containment}
 use Rattle.release.specs.declared.Containment.the-variants.{Open, Dike, Building, ShedWithDoors}
-use Rattle.release.specs.Pool.{poolArea, gasRate, poolRate, atMostTenMinutes, beyondDike, isBuilding}
+use Rattle.release.specs.Rates.{gasRate, poolRate, atMostTenMinutes, isBuilding}
+use Rattle.pool_area.specs.Pool.{poolArea, beyondDike}
 use Rattle.which_table.specs.declared.State.{State}
 use Rattle.which_table.specs.declared.State.the-variants.{Gas, Pressurized, Refrigerated, Liquid, Solution}
 use Rattle.which_table.specs.WhichTable.{tableOf}

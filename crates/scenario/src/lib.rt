@@ -90,7 +90,7 @@ fn pool(card: ToxicCard, source: Source) -> Scenario
     let state = card.state;
     let ground = card.ground;
     let plume = source.plume;
-    let area = release::pool_area(quantity, source.df, containment);
+    let area = pool_area::pool_area(quantity, source.df, containment);
     let rate = release::pool_rate(source.lf, source.tcf, area, source.shed);
     let ten = release::at_most_ten_minutes(quantity, rate);
     let number = which_table::table(card.cas, state, plume, ground, ten);
@@ -126,7 +126,7 @@ fn refrigerated(card: ToxicCard, gas: Gas) -> Planned
     let containment = card.containment;
     let quantity = card.quantity;
     let plume = gas.plume;
-    let beyond = release::beyond_dike(quantity, gas.df, containment);
+    let beyond = pool_area::beyond_dike(quantity, gas.df, containment);
     if beyond {
         let source = Source {
             df: gas.df,

@@ -15,7 +15,8 @@ use Rattle.exhibits.specs.PrintedB2.{b2}
 use Rattle.exhibits.specs.Exhibits.{toxicOf}
 use Rattle.rules.specs.Rules.{answered, apart, byRow, closest, closestColumn, closestFrom, closestRow, distance, fromColumn, inUse, larger, largest, lastOf, smaller, thousandths}
 use Rattle.dispersion.specs.Tables.{readIn, readingOf, tables}
-use Rattle.release.specs.Pool.{atMostTenMinutes, dikedArea, poolRate}
+use Rattle.release.specs.Rates.{atMostTenMinutes, poolRate}
+use Rattle.pool_area.specs.Pool.{dikedArea}
 use Rattle.factors.specs.Factors.{columnOf}
 use Rattle.which_table.specs.WhichTable.{tableOf}
 use Rattle.scenario.specs.Plan.{planOf, poolOf}

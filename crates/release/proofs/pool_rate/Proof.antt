@@ -1,5 +1,5 @@
 use Rattle.release.specs.Laws.{product-below}
-use Rattle.release.specs.Pool.{poolRate}
+use Rattle.release.specs.Rates.{poolRate}
 use native.Mathlib.Omega.{arith}
 use Rattle.release.proofs.pool_rate.Statement.{statement}
 use Rattle.release.proofs.pool_rate.Tie as tie

@@ -1,4 +1,4 @@
-use Rattle.release.specs.Laws.{area-limit}
+use Rattle.pool_area.specs.Laws.{area-limit}
 use Rattle.scenario.proofs.Ends.{pool-end}
 use borrow.Author.Needs.{needs}
 use Rattle.scenario.proofs.pool.Statement.{statement}

@@ -1,6 +1,6 @@
 use borrow.Author.Needs.{needs}
-use Rattle.release.proofs.beyond_dike.Statement.{statement}
-use Rattle.release.proofs.beyond_dike.Tie as tie
+use Rattle.pool_area.proofs.beyond_dike.Statement.{statement}
+use Rattle.pool_area.proofs.beyond_dike.Tie as tie
 
 enum-told : tie.Need-enum-told
 enum-told c = search needs

@@ -1,6 +1,6 @@
 use borrow.Author.Needs.{needs}
-use Rattle.release.proofs.pool_area.Statement.{statement}
-use Rattle.release.proofs.pool_area.Tie as tie
+use Rattle.pool_area.proofs.pool_area.Statement.{statement}
+use Rattle.pool_area.proofs.pool_area.Tie as tie
 
 enum-told : tie.Need-enum-told
 enum-told c = search needs

@@ -1,10 +1,10 @@
-use Rattle.release.specs.Laws.{full-below, held-below, diked-closed}
-use Rattle.release.specs.Pool.{fullArea}
+use Rattle.pool_area.specs.Laws.{full-below, held-below, diked-closed}
+use Rattle.pool_area.specs.Pool.{fullArea}
 use Prim.Native.Nat.{_<_, _^_}
 use native.Mathlib.Omega.{arith}
 use borrow.Author.Needs.{needs}
-use Rattle.release.proofs.diked_area.Statement.{statement}
-use Rattle.release.proofs.diked_area.Tie as tie
+use Rattle.pool_area.proofs.diked_area.Statement.{statement}
+use Rattle.pool_area.proofs.diked_area.Tie as tie
 
 full-area-requires : tie.Need-full-area-requires
 full-area-requires c κs = search needs

@@ -1,8 +1,8 @@
-use Rattle.release.specs.Laws.{full-below}
+use Rattle.pool_area.specs.Laws.{full-below}
 use native.Mathlib.Omega.{arith}
 use borrow.Author.Needs.{needs}
-use Rattle.release.proofs.full_area.Statement.{statement}
-use Rattle.release.proofs.full_area.Tie as tie
+use Rattle.pool_area.proofs.full_area.Statement.{statement}
+use Rattle.pool_area.proofs.full_area.Tie as tie
 
 cast-result : tie.Need-cast-result
 cast-result c = search needs
