@@ -11,7 +11,7 @@ use Rattle.refusals.specs.declared.Refusal.{Refusal}
 use Rattle.refusals.specs.Numbers.{numberOf}
 use Rattle.farthest.specs.declared.Leaders.{Leaders}
 use Rattle.walk.specs.declared.Outcome.the-variants as outcome
-use Rattle.register.specs.Register.{outcomeOf}
+use Rattle.cards.specs.Register.{outcomeOf}
 use Rattle.conditions.specs.Conditions.{Condition, condition, only, ofRegister, ofCard, conditionsAt}
 use Rattle.conditions.specs.First.{holdsIn, Names}
 

@@ -25,7 +25,7 @@ use Rattle.header.specs.declared.Header.the-variants as header
 use Rattle.header.specs.Header.{badLength, badVersion, badCount, badBuffer, headerIf, headerOf, countOf}
 use Rattle.walk.specs.declared.Outcome.{Outcome}
 use Rattle.walk.specs.declared.Outcome.the-variants as outcome
-use Rattle.register.specs.Register.{Cards, answers, sent-back, joined, then, cardsFrom, cardsOf, resultOf, afterHeader, outcomeOf}
+use Rattle.cards.specs.Register.{Cards, answers, sent-back, joined, then, cardsFrom, cardsOf, resultOf, afterHeader, outcomeOf}
 use Rattle.ordering.specs.Claim.{cardAt}
 use Rattle.ordering.specs.Found.{header-count}
 use Rattle.conditions.specs.Conditions.{Condition, only, ofRegister, ofCard, numberBefore, conditionsAt}

@@ -8,7 +8,7 @@ use Rattle.refusals.specs.declared.Refusal.{Refusal}
 use Rattle.farthest.specs.declared.Leaders.{Leaders}
 use Rattle.header.specs.Header.{enough}
 use Rattle.walk.specs.declared.Outcome.the-variants as outcome
-use Rattle.register.specs.Register.{outcomeOf}
+use Rattle.cards.specs.Register.{outcomeOf}
 use Rattle.prefix.specs.Prefix.{prefixOf}
 use Rattle.prefix.specs.Claim.{Keeps}
 use Rattle.prefix.specs.Kept.{keeps, accepted-first, refused-first}

@@ -13,7 +13,7 @@ use Rattle.refusals.specs.declared.Refusal.the-variants as refusal
 use Rattle.header.specs.Header.{enough}
 use Rattle.walk.specs.declared.Outcome.{Outcome}
 use Rattle.walk.specs.declared.Outcome.the-variants as outcome
-use Rattle.register.specs.Register.{outcomeOf}
+use Rattle.cards.specs.Register.{outcomeOf}
 use Rattle.comma.specs.declared.Line.{Line}
 use Rattle.comma.specs.declared.Line.the-variants as line
 use Rattle.comma.specs.Line.{lineOf}

@@ -22,8 +22,8 @@ use Rattle.walk.specs.declared.Walked.the-variants as walked
 use Rattle.walk.specs.declared.Writes.the-variants as writes
 use Rattle.walk.specs.Walk.{walkFrom, textFrom}
 use Rattle.walk.specs.Walk.{Within as Reached}
-use Rattle.register.specs.Register.{outcomeOf}
-use Rattle.register.specs.Walked.{passed}
+use Rattle.cards.specs.Register.{outcomeOf}
+use Rattle.cards.specs.Walked.{passed}
 use Rattle.buffer.specs.Wrote.{Wrote}
 use Rattle.buffer.specs.Laws.{joined, written-first}
 use Rattle.closing.specs.Closing.{leaderLine, refusedLine, tooLong}

@@ -19,9 +19,9 @@ use Rattle.running.specs.Running.{beforeCards}
 use Rattle.walk.specs.declared.Walked.the-variants as walked
 use Rattle.walk.specs.declared.Writes.the-variants as writes
 use Rattle.walk.specs.Walk.{textsOf, walkFrom, textFrom}
-use Rattle.register.specs.Register.{Cards, answers, sent-back, cardsFrom, cardsOf, resultOf, afterHeader, outcomeOf}
-use Rattle.register.specs.Laws.{behind-header}
-use Rattle.register.specs.Walked.{Passed, passed-leaders, stopped}
+use Rattle.cards.specs.Register.{Cards, answers, sent-back, cardsFrom, cardsOf, resultOf, afterHeader, outcomeOf}
+use Rattle.cards.specs.Laws.{behind-header}
+use Rattle.cards.specs.Walked.{Passed, passed-leaders, stopped}
 use Rattle.lines.specs.Lines.{cardLine}
 use Rattle.closing.specs.Closing.{refusedLine}
 use Rattle.listing.specs.declared.Listed.{Listed}

@@ -12,7 +12,7 @@ use Rattle.farthest.specs.Farthest.{leadersOf}
 use Rattle.header.specs.declared.Header.{Header}
 use Rattle.header.specs.declared.Header.the-variants as header
 use Rattle.header.specs.Header.{headerSize, cardSize, enough, headerOf}
-use Rattle.register.specs.Register.{Cards, answers, sent-back, cardsOf}
+use Rattle.cards.specs.Register.{Cards, answers, sent-back, cardsOf}
 use Rattle.lines.specs.Lines.{cardLine}
 use Rattle.closing.specs.Closing.{leaderLine, refusedLine, tooLong}
 use Rattle.listing.specs.declared.Listed.{Listed}

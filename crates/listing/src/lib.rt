@@ -10,7 +10,7 @@ ghost use Prim.Native.Nat.{_*_, _≤_};
 ghost use lib.ListN.{length};
 ghost use Rattle.buffer.specs.Wrote.{Wrote};
 ghost use Rattle.header.specs.Header.{enough, headerOf};
-ghost use Rattle.register.specs.Register.{outcomeOf};
+ghost use Rattle.cards.specs.Register.{outcomeOf};
 ghost use Rattle.listing.specs.Listing.{leaderLines, listedAfter, listingRoom, listedOf, listedInto, Within};
 ghost use Rattle.listing.specs.Laws.{IsAccepted};
 

@@ -13,7 +13,7 @@ use Rattle.farthest.specs.declared.Farthest.{Farthest}
 use Rattle.farthest.specs.Farthest.{NoFarther}
 use Rattle.header.specs.Header.{headerSize, cardSize, countOf}
 use Rattle.walk.specs.declared.Outcome.the-variants as outcome
-use Rattle.register.specs.Register.{outcomeOf}
+use Rattle.cards.specs.Register.{outcomeOf}
 
 -- "Demand 3 reads its cards from the bytes handed in": the 24 bytes of the card at a place
 abbrev pub cardAt : List ℕ → ℕ → List ℕ

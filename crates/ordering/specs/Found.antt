@@ -21,8 +21,8 @@ use Rattle.header.specs.declared.Header.{Header}
 use Rattle.header.specs.declared.Header.the-variants as header
 use Rattle.header.specs.Header.{badLength, badVersion, badCount, badBuffer, headerIf, headerOf, countOf}
 use Rattle.walk.specs.declared.Outcome.the-variants as outcome
-use Rattle.register.specs.Register.{Cards, answers, sent-back, joined, then, cardsFrom, cardsOf, resultOf, afterHeader, outcomeOf}
-use Rattle.register.specs.Laws.{joined-is}
+use Rattle.cards.specs.Register.{Cards, answers, sent-back, joined, then, cardsFrom, cardsOf, resultOf, afterHeader, outcomeOf}
+use Rattle.cards.specs.Laws.{joined-is}
 use Rattle.ordering.specs.Claim.{cardAt}
 
 -- the answer at a place is that of the card's bytes there, after some last number

@@ -21,9 +21,9 @@ use Rattle.walk.specs.declared.Walked.{Walked}
 use Rattle.walk.specs.declared.Walked.the-variants as walked
 use Rattle.walk.specs.declared.Writes.the-variants as writes
 use Rattle.walk.specs.Walk.{walkFrom, endOf}
-use Rattle.register.specs.Register.{cardsFrom, cardsOf}
-use Rattle.register.specs.Laws.{cards-count, behind-header, header-refused}
-use Rattle.register.specs.Walked.{Passed, passed, passed-leaders, stopped}
+use Rattle.cards.specs.Register.{cardsFrom, cardsOf}
+use Rattle.cards.specs.Laws.{cards-count, behind-header, header-refused}
+use Rattle.cards.specs.Walked.{Passed, passed, passed-leaders, stopped}
 use Rattle.prefix.specs.Prefix.{resultAfter, resultBehind, prefixOf}
 use Rattle.prefix.specs.Claim.{Keeps}
 use Rattle.prefix.specs.Cut.{inFront, front-answers, front-sent-back, cut-answered, cut-sent-back}

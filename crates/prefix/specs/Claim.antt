@@ -19,7 +19,7 @@ use Rattle.farthest.specs.Farthest.{Reaches}
 use Rattle.header.specs.Header.{enough, countOf}
 use Rattle.walk.specs.declared.Outcome.{Outcome}
 use Rattle.walk.specs.declared.Outcome.the-variants as outcome
-use Rattle.register.specs.Register.{outcomeOf}
+use Rattle.cards.specs.Register.{outcomeOf}
 use Rattle.ordering.specs.Claim.{cardAt, farthestIn}
 
 -- the distance that demand 2 gives a card, in hundredths of a mile; 0 where it has none

@@ -14,8 +14,8 @@ use Rattle.card.specs.declared.Answered.the-variants as answered
 use Rattle.card.specs.Answers.{answerOf}
 use Rattle.running.specs.declared.Running.{Running}
 use Rattle.running.specs.Running.{afterCard, runningAfter}
-use Rattle.register.specs.Register.{Cards, answers, sent-back, joined, then, cardsFrom}
-use Rattle.register.specs.Laws.{joined-is}
+use Rattle.cards.specs.Register.{Cards, answers, sent-back, joined, then, cardsFrom}
+use Rattle.cards.specs.Laws.{joined-is}
 
 -- the answers of the first cards in front of what the others come to
 abbrev pub inFront : List Answer → Cards → Cards

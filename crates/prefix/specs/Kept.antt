@@ -28,8 +28,8 @@ use Rattle.header.specs.declared.Header.the-variants as header
 use Rattle.header.specs.Header.{enough, headerOf, countOf}
 use Rattle.walk.specs.declared.Outcome.{Outcome}
 use Rattle.walk.specs.declared.Outcome.the-variants as outcome
-use Rattle.register.specs.Register.{Cards, answers, sent-back, cardsFrom, cardsOf, resultOf, afterHeader, outcomeOf}
-use Rattle.register.specs.Laws.{cards-count}
+use Rattle.cards.specs.Register.{Cards, answers, sent-back, cardsFrom, cardsOf, resultOf, afterHeader, outcomeOf}
+use Rattle.cards.specs.Laws.{cards-count}
 use Rattle.ordering.specs.Claim.{cardAt}
 use Rattle.ordering.specs.Ordering.{in-result}
 use Rattle.ordering.specs.Found.{Found, found, header-count, from-card, to-card}

@@ -10,7 +10,7 @@ use Rattle.header.specs.declared.Header.the-variants as header
 use Rattle.header.specs.Header.{enough, headerOf}
 use Rattle.walk.specs.declared.Outcome.{Outcome}
 use Rattle.walk.specs.declared.Outcome.the-variants as outcome
-use Rattle.register.specs.Register.{Cards, answers, sent-back, cardsOf}
+use Rattle.cards.specs.Register.{Cards, answers, sent-back, cardsOf}
 
 -- "after the first k cards of an accepted register, for every k, they are 01's farthest of those k, or none"; beyond the count the first
 -- k cards are all its cards. A register that is sent back gives its own refusal, whichever card it is for.

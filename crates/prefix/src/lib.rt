@@ -6,7 +6,7 @@ use walk::Writes;
 ghost use mathlib.Core.Path.{_≡_};
 ghost use Prim.Native.Nat.{_*_, _≤_};
 ghost use lib.ListN.{length};
-ghost use Rattle.register.specs.Register.{cardsFrom};
+ghost use Rattle.cards.specs.Register.{cardsFrom};
 ghost use Rattle.prefix.specs.Prefix.{resultAfter, prefixOf};
 ghost use Rattle.prefix.specs.Claim.{Keeps};
 

@@ -19,8 +19,8 @@ use Rattle.header.specs.declared.Header.{Header}
 use Rattle.header.specs.declared.Header.the-variants as header
 use Rattle.header.specs.Header.{headerOf, countOf}
 use Rattle.walk.specs.declared.Outcome.the-variants as outcome
-use Rattle.register.specs.Register.{Cards, answers, sent-back, cardsFrom, cardsOf, resultOf, afterHeader, outcomeOf, bytesOf, filledWith, filledAfter, bufferOf}
-use Rattle.register.specs.Laws.{cards-count, bytes-length}
+use Rattle.cards.specs.Register.{Cards, answers, sent-back, cardsFrom, cardsOf, resultOf, afterHeader, outcomeOf, bytesOf, filledWith, filledAfter, bufferOf}
+use Rattle.cards.specs.Laws.{cards-count, bytes-length}
 use Rattle.ordering.specs.Claim.{cardAt, Accepts}
 use Rattle.ordering.specs.Found.{Found, found, header-count, any-room, to-card}
 

@@ -9,7 +9,7 @@ use mathlib.Core.List.{List, [], _∷_, _++_, map}
 use Rattle.refusals.specs.Numbers.{numberOf}
 use Rattle.walk.specs.declared.Outcome.{Outcome}
 use Rattle.walk.specs.declared.Outcome.the-variants as outcome
-use Rattle.register.specs.Register.{outcomeOf}
+use Rattle.cards.specs.Register.{outcomeOf}
 use Rattle.conditions.specs.Conditions.{Condition, condition, unlisted, filled, badToxic, badFlammable, badForm, ofGas, ofLiquid, ofTable13, ofSolution, badCas, mismatched, aboveLast, lastInUse, beyondTable, stateIn, groundIn, heldIn, beyond, ofRegister, ofCard, only, conditionsAt}
 use Rattle.promises.specs.Starred.{cardOf, registerOf, chlorine, ammonia, bromine, propane, rural, urban, in-open, in-dike, computed}
 use Rattle.promises.specs.Solutions.{hydrochloric}

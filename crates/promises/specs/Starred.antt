@@ -42,7 +42,7 @@ use Rattle.buffer.specs.Numbers.{twoBytes, fourBytes}
 use Rattle.header.specs.Header.{answerSize, badBuffer, badCount, badLength, badVersion, cardSize, headerOf, headerSize}
 use Rattle.walk.specs.declared.Outcome.{Outcome}
 use Rattle.walk.specs.declared.Outcome.the-variants as outcome
-use Rattle.register.specs.Register.{Cards, answers, cardsFrom, cardsOf, outcomeOf}
+use Rattle.cards.specs.Register.{Cards, answers, cardsFrom, cardsOf, outcomeOf}
 
 -- a card's 24 bytes: kind, state, ground, containment, CAS number, pounds, area, wall, temperature, card number
 abbrev pub cardOf : ℕ → ℕ → ℕ → ℕ → ℕ → ℕ → ℕ → ℕ → ℕ → ℕ → List ℕ

@@ -1,40 +1,11 @@
 // A register: its cards checked in turn, then answered into the lent buffer.
 use header::Header;
 pub use walk::Outcome;
-use walk::Walked;
 use walk::Writes;
 ghost use mathlib.Core.Path.{_≡_};
 ghost use Prim.Native.Nat.{_*_, _≤_};
 ghost use lib.ListN.{length};
-ghost use Rattle.register.specs.Register.{cardsFrom, resultOf, filledWith, outcomeOf, bufferOf};
-
-// The cards are walked once, into a buffer that nobody but the two callers below sees, and what it holds is copied where no card
-// was refused: so every card is checked before a byte of the lent buffer is written.
-fn answer_through(cards: &[u8], count: usize, scratch: &mut [u8], answers: &mut [u8]) -> Outcome
-    requires { ⌜ (count ≤ 2000) × (24 * count ≤ length (now cards)) × (16 * count ≤ length (now scratch)) × (16 * count ≤ length (now answers)) ⌝ }
-    ensures { λ r. ⌜ r ≡ resultOf (cardsFrom count 0 0 (now (cards .entry))) ⌝ }
-    ensures { λ r. ⌜ now (answers .exit) ≡ filledWith (cardsFrom count 0 0 (now (cards .entry))) (now (answers .entry)) ⌝ }
-{
-    let walked = walk::through(cards, count, Writes::Answers, scratch);
-    match walked {
-        Walked::On(running, size) => {
-            let leaders = running.leaders;
-            buffer::put_text(answers, 0, &scratch[..size]);
-            Outcome::Accepted(leaders)
-        }
-        Walked::Refused(refusal, place) => Outcome::Refused(refusal, place),
-    }
-}
-
-// One card needs no such buffer: the walk refuses it before it writes a byte.
-fn answer_one(cards: &[u8], count: usize, answers: &mut [u8]) -> Outcome
-    requires { ⌜ (count ≤ 1) × (24 * count ≤ length (now cards)) × (16 * count ≤ length (now answers)) ⌝ }
-    ensures { λ r. ⌜ r ≡ resultOf (cardsFrom count 0 0 (now (cards .entry))) ⌝ }
-    ensures { λ r. ⌜ now (answers .exit) ≡ filledWith (cardsFrom count 0 0 (now (cards .entry))) (now (answers .entry)) ⌝ }
-{
-    let walked = walk::through(cards, count, Writes::Answers, answers);
-    walk::outcome_of(walked)
-}
+ghost use Rattle.cards.specs.Register.{cardsFrom, resultOf, filledWith, outcomeOf, bufferOf};
 
 // A short register has a short buffer: to clear the long one costs about as much as four cards.
 fn answer_short(cards: &[u8], count: usize, answers: &mut [u8]) -> Outcome
@@ -43,7 +14,7 @@ fn answer_short(cards: &[u8], count: usize, answers: &mut [u8]) -> Outcome
     ensures { λ r. ⌜ now (answers .exit) ≡ filledWith (cardsFrom count 0 0 (now (cards .entry))) (now (answers .entry)) ⌝ }
 {
     let mut scratch = [0u8; 1024];
-    answer_through(cards, count, &mut scratch, answers)
+    cards::answer_through(cards, count, &mut scratch, answers)
 }
 
 // The long buffer has room for the answers of as many cards as a register may have.
@@ -53,7 +24,7 @@ fn answer_long(cards: &[u8], count: usize, answers: &mut [u8]) -> Outcome
     ensures { λ r. ⌜ now (answers .exit) ≡ filledWith (cardsFrom count 0 0 (now (cards .entry))) (now (answers .entry)) ⌝ }
 {
     let mut scratch = [0u8; 32000];
-    answer_through(cards, count, &mut scratch, answers)
+    cards::answer_through(cards, count, &mut scratch, answers)
 }
 
 fn answer_all(cards: &[u8], count: usize, answers: &mut [u8]) -> Outcome
@@ -62,7 +33,7 @@ fn answer_all(cards: &[u8], count: usize, answers: &mut [u8]) -> Outcome
     ensures { λ r. ⌜ now (answers .exit) ≡ filledWith (cardsFrom count 0 0 (now (cards .entry))) (now (answers .entry)) ⌝ }
 {
     if count <= 1 {
-        return answer_one(cards, count, answers);
+        return cards::answer_one(cards, count, answers);
     }
     if count <= 64 {
         return answer_short(cards, count, answers);

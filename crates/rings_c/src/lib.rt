@@ -3,7 +3,7 @@
 ghost use mathlib.Core.Path.{_≡_};
 ghost use lib.ListN.{length};
 ghost use Rattle.card.specs.declared.Class.the-variants.{Toxic, Flammable};
-ghost use Rattle.register.specs.Register.{outcomeOf, bufferOf};
+ghost use Rattle.cards.specs.Register.{outcomeOf, bufferOf};
 ghost use Rattle.prefix.specs.Prefix.{prefixOf};
 ghost use Rattle.comma.specs.Text.{readingOf, readInto};
 ghost use Rattle.write_lines.specs.Writing.{writingOf, writeInto};

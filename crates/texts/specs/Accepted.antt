@@ -25,8 +25,8 @@ use Rattle.header.specs.declared.Header.{Header}
 use Rattle.header.specs.declared.Header.the-variants as header
 use Rattle.header.specs.Header.{enough, countOf, badLength, badVersion, badCount, headerOf}
 use Rattle.walk.specs.declared.Outcome.the-variants as outcome
-use Rattle.register.specs.Register.{answers, then, cardsFrom, afterHeader, outcomeOf}
-use Rattle.register.specs.Laws.{joined-is}
+use Rattle.cards.specs.Register.{answers, then, cardsFrom, afterHeader, outcomeOf}
+use Rattle.cards.specs.Laws.{joined-is}
 use Rattle.ordering.specs.Found.{Checked, checked, any-room, found}
 use Rattle.comma.specs.Strict.{fieldsFrom}
 use Rattle.write_lines.specs.Writing.{fieldsOfRegister}

@@ -34,7 +34,7 @@ use Rattle.card.specs.Answers.{answerOf}
 use Rattle.farthest.specs.declared.Farthest.the-variants as farthest
 use Rattle.farthest.specs.Farthest.{leadersAfter, leadersFrom, leadersOf}
 use Rattle.header.specs.Header.{countOf, badLength, badVersion, badCount, badBuffer, headerOf}
-use Rattle.register.specs.Register.{cardsFrom, cardsOf, outcomeOf}
+use Rattle.cards.specs.Register.{cardsFrom, cardsOf, outcomeOf}
 use Rattle.comma.specs.Text.{cardBytes, bytesOf, headerBytes, registerOf}
 use Rattle.comma.specs.Strict.{casText, heatText, tenthsText, fieldTexts, strictLine, strictLines, fieldsFrom}
 use Rattle.comma.specs.StrictLaws.{AllFitting, cas-short, heat-cases, tenths-cases}

@@ -1,5 +1,5 @@
 -- The walk of the code over a register's cards, as it goes: a step for each card, with the running values and the bytes that are
--- written on the way. It serves the proofs; what a register is stands in `register/specs/Register.antt`, and the laws beside it join
+-- written on the way. It serves the proofs; what a register is stands in `cards/specs/Register.antt`, and the laws beside it join
 -- the two.
 -- Assumes nothing.
 use Prim.Native.Nat.{ℕ, zero, suc, _+_, _≤_}

@@ -22,8 +22,8 @@ use Rattle.header.specs.Header.{enough, countOf, badLength, badVersion, badCoun
 use Rattle.header.proofs.Ends.{header-fits}
 use Rattle.walk.specs.declared.Outcome.{Outcome}
 use Rattle.walk.specs.declared.Outcome.the-variants as outcome
-use Rattle.register.specs.Register.{afterHeader, outcomeOf}
-use Rattle.register.specs.Laws.{behind-header}
+use Rattle.cards.specs.Register.{afterHeader, outcomeOf}
+use Rattle.cards.specs.Laws.{behind-header}
 use Rattle.comma.specs.declared.Converted.{Converted}
 use Rattle.comma.specs.declared.Converted.the-variants as converted
 use Rattle.write_lines.specs.Writing.{fieldsOfRegister, strictText, answerAs, writingOf, writtenAs, writeInto}

@@ -10,7 +10,7 @@ use Rattle.refusals.specs.declared.Refusal.the-variants as refusal
 use Rattle.header.specs.Header.{headerSize, enough, countOf}
 use Rattle.walk.specs.declared.Outcome.{Outcome}
 use Rattle.walk.specs.declared.Outcome.the-variants as outcome
-use Rattle.register.specs.Register.{outcomeOf}
+use Rattle.cards.specs.Register.{outcomeOf}
 use Rattle.comma.specs.declared.Converted.{Converted}
 use Rattle.comma.specs.declared.Converted.the-variants as converted
 use Rattle.comma.specs.Strict.{fieldsFrom, strictLines}

@@ -1,7 +1,7 @@
 -- `listing::put_accepted` meets its contract: the header of an accepted register is good, its walk stops at no card, and its cards' lines
 -- stand before its leaders'.
 -- Assumes nothing.
-use Rattle.register.specs.Laws.{good}
+use Rattle.cards.specs.Laws.{good}
 use Rattle.listing.proofs.Ends.{accepted-lines, never-stopped, never-refused, lines-room, behind-cards}
 use borrow.Author.Needs.{needs}
 use Rattle.listing.proofs.put_accepted.Statement.{statement}

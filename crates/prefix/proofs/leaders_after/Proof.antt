@@ -1,6 +1,6 @@
 -- `prefix::leaders_after` meets its contract: the refusal of the header, or the leaders after as many of the first k cards as there are.
 -- Assumes nothing.
-use Rattle.register.specs.Laws.{good}
+use Rattle.cards.specs.Laws.{good}
 use Rattle.prefix.proofs.Ends.{header-told, some-cards, every-card, kept}
 use borrow.Author.Needs.{needs}
 use Rattle.prefix.proofs.leaders_after.Statement.{statement}

@@ -1,6 +1,6 @@
 -- `register::ask` meets its contract: the end of the walk is the call's answer.
 -- Assumes nothing.
-use Rattle.register.proofs.Ends.{walked-result}
+use Rattle.cards.proofs.Ends.{walked-result}
 use borrow.Author.Needs.{needs}
 use Rattle.register.proofs.ask.Statement.{statement}
 use Rattle.register.proofs.ask.Tie as tie

@@ -19,7 +19,7 @@ use Rattle.header.specs.declared.Header.the-variants as header
 use Rattle.header.specs.Header.{headerOf, headerRefusal, HeaderFits, Fitting}
 use Rattle.walk.specs.declared.Outcome.{Outcome}
 use Rattle.walk.specs.declared.Outcome.the-variants as outcome
-use Rattle.register.specs.Register.{Cards, answers, sent-back, joined, then, cardsFrom, cardsOf, resultOf, afterHeader, outcomeOf, bytesOf, filledWith, filledAfter, bufferOf}
+use Rattle.cards.specs.Register.{Cards, answers, sent-back, joined, then, cardsFrom, cardsOf, resultOf, afterHeader, outcomeOf, bytesOf, filledWith, filledAfter, bufferOf}
 
 -- where one answer more in front gives cards that are all answered, the cards behind it are
 pub joined-is : (a : Answer) (c : Cards) {xs : List Answer} → joined a c ≡ answers xs → (ys : List Answer) × (c ≡ answers ys) × (a ∷ ys ≡ xs)

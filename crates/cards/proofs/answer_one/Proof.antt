@@ -1,9 +1,9 @@
--- `register::answer_one` meets its contract: the walk over one card writes nothing where it is refused.
+-- `cards::answer_one` meets its contract: the walk over one card writes nothing where it is refused.
 -- Assumes nothing.
-use Rattle.register.proofs.Ends.{walked-result, one-written}
+use Rattle.cards.proofs.Ends.{walked-result, one-written}
 use borrow.Author.Needs.{needs}
-use Rattle.register.proofs.answer_one.Statement.{statement}
-use Rattle.register.proofs.answer_one.Tie as tie
+use Rattle.cards.proofs.answer_one.Statement.{statement}
+use Rattle.cards.proofs.answer_one.Tie as tie
 
 through-requires : tie.Need-through-requires
 through-requires c κs = search needs

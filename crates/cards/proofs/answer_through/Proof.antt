@@ -1,9 +1,9 @@
--- `register::answer_through` meets its contract: what the buffer of its own holds is copied only where the walk accepted every card.
+-- `cards::answer_through` meets its contract: what the buffer of its own holds is copied only where the walk accepted every card.
 -- Assumes nothing.
-use Rattle.register.proofs.Ends.{part-there, part-length, part-fits, on-result, refused-result, refused-kept, copied}
+use Rattle.cards.proofs.Ends.{part-there, part-length, part-fits, on-result, refused-result, refused-kept, copied}
 use borrow.Author.Needs.{needs}
-use Rattle.register.proofs.answer_through.Statement.{statement}
-use Rattle.register.proofs.answer_through.Tie as tie
+use Rattle.cards.proofs.answer_through.Statement.{statement}
+use Rattle.cards.proofs.answer_through.Tie as tie
 
 through-requires : tie.Need-through-requires
 through-requires c κs = search needs

@@ -25,9 +25,9 @@ use Rattle.walk.specs.declared.Walked.the-variants as walked
 use Rattle.walk.specs.declared.Writes.{Writes}
 use Rattle.walk.specs.declared.Writes.the-variants as writes
 use Rattle.walk.specs.Walk.{textOf, textsOf, walkFrom, writeOn, textFrom, endOf, Within}
-use Rattle.register.specs.Register.{Cards, answers, sent-back, then, cardsFrom, resultOf, bytesOf, filledWith}
-use Rattle.register.specs.Laws.{cards-count, bytes-length}
-use Rattle.register.specs.Walked.{text-is, passed, stopped, end-result}
+use Rattle.cards.specs.Register.{Cards, answers, sent-back, then, cardsFrom, resultOf, bytesOf, filledWith}
+use Rattle.cards.specs.Laws.{cards-count, bytes-length}
+use Rattle.cards.specs.Walked.{text-is, passed, stopped, end-result}
 
 -- the texts of the answer buffer are its bytes
 texts-bytes : (xs : List Answer) → textsOf writes.Answers xs ≡ bytesOf xs

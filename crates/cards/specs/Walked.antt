@@ -21,8 +21,8 @@ use Rattle.walk.specs.declared.Walked.{Walked}
 use Rattle.walk.specs.declared.Walked.the-variants as walked
 use Rattle.walk.specs.declared.Writes.{Writes}
 use Rattle.walk.specs.Walk.{textOf, textsOf, goOn, walkFrom, writeOn, textFrom, endOf}
-use Rattle.register.specs.Register.{Cards, answers, sent-back, joined, then, cardsFrom, resultOf}
-use Rattle.register.specs.Laws.{joined-is}
+use Rattle.cards.specs.Register.{Cards, answers, sent-back, joined, then, cardsFrom, resultOf}
+use Rattle.cards.specs.Laws.{joined-is}
 
 -- what a walk from running values and a position on ends with, where its cards come to this
 abbrev walkedAs : Writes → Running → ℕ → Cards → Walked
