@@ -1,16 +1,12 @@
 -- The parts of a strict line, as the code writes them one after the other. They serve the proofs; what a strict line is stands in
 -- `comma/specs/Strict.antt`.
 -- Assumes nothing.
-use Prim.Native.Nat.{ℕ, _/_}
+use Prim.Native.Nat.{ℕ}
 use mathlib.Core.List.{List, [], _∷_, _++_}
-use Rattle.decimal.specs.Decimal.{digits, padded}
+use Rattle.decimal.specs.Decimal.{digits}
 use Rattle.pieces.specs.Pieces.{closed}
 use Rattle.fields.specs.declared.Fields.{Fields}
 use Rattle.comma.specs.Strict.{casText, tenthsText}
-
--- what stands behind the first hyphen of a CAS number, and the comma
-unfoldable pub casEnd : ℕ → List ℕ
-casEnd cas = padded 2 (cas / 10) ++ (45 ∷ (padded 1 cas ++ (44 ∷ [])))
 
 unfoldable pub codesText : Fields → List ℕ
 codesText f = closed 44 (digits (f .kind) ∷ digits (f .state) ∷ digits (f .ground) ∷ digits (f .containment) ∷ [])

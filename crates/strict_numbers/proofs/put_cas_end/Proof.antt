@@ -1,9 +1,9 @@
--- `strict_line::put_cas_end` meets its contract: two digits, a hyphen, one digit and a comma.
+-- `strict_numbers::put_cas_end` meets its contract: two digits, a hyphen, one digit and a comma.
 -- Assumes nothing.
-use Rattle.strict_line.proofs.Ends.{cas-end}
+use Rattle.strict_numbers.proofs.Ends.{cas-end}
 use borrow.Author.Needs.{needs}
-use Rattle.strict_line.proofs.put_cas_end.Statement.{statement}
-use Rattle.strict_line.proofs.put_cas_end.Tie as tie
+use Rattle.strict_numbers.proofs.put_cas_end.Statement.{statement}
+use Rattle.strict_numbers.proofs.put_cas_end.Tie as tie
 
 put-padded-requires : tie.Need-put-padded-requires
 put-padded-requires c κs = search needs

@@ -1,9 +1,9 @@
--- `strict_line::put_tenths` meets its contract: by the number of the state.
+-- `strict_numbers::put_tenths` meets its contract: by the number of the state.
 -- Assumes nothing.
-use Rattle.strict_line.proofs.Ends.{concentration, temperature}
+use Rattle.strict_numbers.proofs.Ends.{concentration, temperature}
 use borrow.Author.Needs.{needs}
-use Rattle.strict_line.proofs.put_tenths.Statement.{statement}
-use Rattle.strict_line.proofs.put_tenths.Tie as tie
+use Rattle.strict_numbers.proofs.put_tenths.Statement.{statement}
+use Rattle.strict_numbers.proofs.put_tenths.Tie as tie
 
 put-number-then-requires : tie.Need-put-number-then-requires
 put-number-then-requires c κs = search needs

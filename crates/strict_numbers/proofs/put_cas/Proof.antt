@@ -1,9 +1,9 @@
--- `strict_line::put_cas` meets its contract: the first group and its hyphen, and what stands behind it.
+-- `strict_numbers::put_cas` meets its contract: the first group and its hyphen, and what stands behind it.
 -- Assumes nothing.
-use Rattle.strict_line.proofs.Ends.{cas-line}
+use Rattle.strict_numbers.proofs.Ends.{cas-line}
 use borrow.Author.Needs.{needs}
-use Rattle.strict_line.proofs.put_cas.Statement.{statement}
-use Rattle.strict_line.proofs.put_cas.Tie as tie
+use Rattle.strict_numbers.proofs.put_cas.Statement.{statement}
+use Rattle.strict_numbers.proofs.put_cas.Tie as tie
 
 put-number-then-requires : tie.Need-put-number-then-requires
 put-number-then-requires c κs = search needs

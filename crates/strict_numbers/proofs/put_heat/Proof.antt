@@ -1,9 +1,9 @@
--- `strict_line::put_heat` meets its contract: the number, with a minus in front below zero.
+-- `strict_numbers::put_heat` meets its contract: the number, with a minus in front below zero.
 -- Assumes nothing.
-use Rattle.strict_line.proofs.Ends.{heat-up, heat-down}
+use Rattle.strict_numbers.proofs.Ends.{heat-up, heat-down}
 use borrow.Author.Needs.{needs}
-use Rattle.strict_line.proofs.put_heat.Statement.{statement}
-use Rattle.strict_line.proofs.put_heat.Tie as tie
+use Rattle.strict_numbers.proofs.put_heat.Statement.{statement}
+use Rattle.strict_numbers.proofs.put_heat.Tie as tie
 
 put-number-then-requires : tie.Need-put-number-then-requires
 put-number-then-requires c κs = search needs
