@@ -26,8 +26,9 @@ use Rattle.cards.specs.Register.{afterHeader, outcomeOf}
 use Rattle.cards.specs.Laws.{behind-header}
 use Rattle.comma.specs.declared.Converted.{Converted}
 use Rattle.comma.specs.declared.Converted.the-variants as converted
+use Rattle.strict_lines.specs.Walk.{linesTo}
 use Rattle.write_lines.specs.Writing.{fieldsOfRegister, strictText, answerAs, writingOf, writtenAs, writeInto}
-use Rattle.write_lines.specs.Walk.{linesTo, accepted}
+use Rattle.write_lines.specs.Accepted.{accepted}
 
 -- ---- the text of an accepted register's cards
 

@@ -1,3 +1,2 @@
 pub mod Writing
-pub mod Walk
-pub mod Laws
+pub mod Accepted

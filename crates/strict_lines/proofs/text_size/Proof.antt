@@ -1,14 +1,14 @@
--- `write_lines::text_size` meets its contract. The loop's invariant: the size is that of the lines of the cards passed, and no
+-- `strict_lines::text_size` meets its contract. The loop's invariant: the size is that of the lines of the cards passed, and no
 -- line is longer than 256 bytes. The measure is the cards left.
 -- Assumes nothing.
 use Prim.Native.Nat.{_≤_, _-_, _*_}
 use mathlib.Core.Path.{_≡_}
 use lib.ListN.{length}
-use Rattle.write_lines.specs.Walk.{linesTo}
-use Rattle.write_lines.proofs.Turns.{size-start, size-turn, size-end}
+use Rattle.strict_lines.specs.Walk.{linesTo}
+use Rattle.strict_lines.proofs.Turns.{size-start, size-turn, size-end}
 use borrow.Author.Needs.{needs}
-use Rattle.write_lines.proofs.text_size.Statement.{statement}
-use Rattle.write_lines.proofs.text_size.Tie as tie
+use Rattle.strict_lines.proofs.text_size.Statement.{statement}
+use Rattle.strict_lines.proofs.text_size.Tie as tie
 
 abbrev Inv-loop : tie.InvT-loop
 Inv-loop cards count line₀ size₀ place₀ line size place =

@@ -1,15 +1,15 @@
--- `write_lines::put_lines` meets its contract. The loop's invariant: the lines of the cards passed are written, and the scratch line
+-- `strict_lines::put_lines` meets its contract. The loop's invariant: the lines of the cards passed are written, and the scratch line
 -- has room for one. The measure is the cards left.
 -- Assumes nothing.
 use Prim.Native.Nat.{_≤_, _-_}
 use mathlib.Core.Path.{_≡_}
 use lib.ListN.{length}
 use Rattle.buffer.specs.Wrote.{Wrote}
-use Rattle.write_lines.specs.Walk.{linesTo}
-use Rattle.write_lines.proofs.Turns.{put-start, line-part, line-fits, put-turn, put-end}
+use Rattle.strict_lines.specs.Walk.{linesTo}
+use Rattle.strict_lines.proofs.Turns.{put-start, line-part, line-fits, put-turn, put-end}
 use borrow.Author.Needs.{needs}
-use Rattle.write_lines.proofs.put_lines.Statement.{statement}
-use Rattle.write_lines.proofs.put_lines.Tie as tie
+use Rattle.strict_lines.proofs.put_lines.Statement.{statement}
+use Rattle.strict_lines.proofs.put_lines.Tie as tie
 
 abbrev Inv-loop : tie.InvT-loop
 Inv-loop cards count line₀ out₀ at₀ place₀ line out at place =

@@ -10,7 +10,7 @@ use lib.Seq.{drop-drop}
 use Rattle.pieces.specs.Pieces.{closed}
 use Rattle.fields.specs.Layout.{fieldsOf}
 use Rattle.comma.specs.Strict.{fieldsFrom, strictLine, strictLines}
-use Rattle.write_lines.specs.Walk.{lineAt, linesTo}
+use Rattle.strict_lines.specs.Walk.{lineAt, linesTo}
 
 -- the line at a place behind the first card
 line-further : (cards : List ℕ) (place : ℕ) → lineAt (drop 24 cards) place ≡ lineAt cards (suc place)

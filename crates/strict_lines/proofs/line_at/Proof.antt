@@ -1,9 +1,9 @@
--- `write_lines::line_at` meets its contract: the strict line of the card's fields.
+-- `strict_lines::line_at` meets its contract: the strict line of the card's fields.
 -- Assumes nothing.
-use Rattle.write_lines.proofs.Turns.{card-line}
+use Rattle.strict_lines.proofs.Turns.{card-line}
 use borrow.Author.Needs.{needs}
-use Rattle.write_lines.proofs.line_at.Statement.{statement}
-use Rattle.write_lines.proofs.line_at.Tie as tie
+use Rattle.strict_lines.proofs.line_at.Statement.{statement}
+use Rattle.strict_lines.proofs.line_at.Tie as tie
 
 mul-start : tie.Need-mul-start
 mul-start c = search needs

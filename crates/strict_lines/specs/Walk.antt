@@ -4,10 +4,7 @@ use Prim.Native.Nat.{ℕ, _*_}
 use mathlib.Core.List.{List, [], _∷_, _++_}
 use lib.ListN.{take, drop}
 use Rattle.fields.specs.Layout.{fieldsOf}
-use Rattle.farthest.specs.Farthest.{noLeaders}
 use Rattle.header.specs.Header.{cardSize}
-use Rattle.walk.specs.declared.Outcome.{Outcome}
-use Rattle.walk.specs.declared.Outcome.the-variants as outcome
 use Rattle.comma.specs.Strict.{fieldsFrom, strictLine, strictLines}
 
 -- the line of the card at a place, with its line feed
@@ -17,7 +14,3 @@ lineAt cards place = strictLine (fieldsOf (take cardSize (drop (cardSize * place
 -- the lines of the first so many cards
 unfoldable pub linesTo : ℕ → List ℕ → List ℕ
 linesTo count cards = strictLines (fieldsFrom count cards)
-
--- a register that is accepted: what is written of it does not depend on its leaders
-abbrev pub accepted : Outcome
-accepted = outcome.Accepted noLeaders

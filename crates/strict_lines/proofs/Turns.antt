@@ -13,8 +13,8 @@ use Rattle.buffer.specs.Laws.{joined, written-whole}
 use Rattle.fields.specs.declared.Fields.{Fields}
 use Rattle.fields.specs.Layout.{fieldsOf}
 use Rattle.comma.specs.Strict.{strictLine}
-use Rattle.write_lines.specs.Walk.{lineAt, linesTo}
-use Rattle.write_lines.specs.Laws.{lines-none, lines-more, lines-within}
+use Rattle.strict_lines.specs.Walk.{lineAt, linesTo}
+use Rattle.strict_lines.specs.Laws.{lines-none, lines-more, lines-within}
 
 -- the card at a place, as the code takes it: from its start to its end
 pub card-line : {line after : List ℕ} {size : ℕ} (cards : List ℕ) (place : ℕ) (f : Fields)
