@@ -79,7 +79,7 @@ past-last x (a ∷ rest) e h =
     let z : length rest ≡ suc (length rest) - 1 = omega arith in
     closest-by-cuts 1 x (a ∷ rest) (le-refl 1) e ∙ (past-cuts x a rest e (subst (λ n. n < x) (last-is a rest) h) ∙ z)
 
-length-thousandths : (rates : List ℕ) → length (thousandths rates) ≡ length rates
+pub length-thousandths : (rates : List ℕ) → length (thousandths rates) ≡ length rates
 unfolding thousandths
 length-thousandths rates = length-map rates (λ r. 1000 * r)
 
@@ -95,7 +95,7 @@ row-beyond rates entries rate e = go (ltb (lastOf (thousandths rates)) rate) ref
         ap (λ n. not (eqb (inUse entries n) mileLimit)) (sym z) ∙ answered-is true (inUse entries (closest 1 rate (thousandths rates)))
 
 -- Tables 1 to 4 all end with an open range: a test that computes
-abbrev endless : Table → Bool
+abbrev pub endless : Table → Bool
 endless (ranges table) = eqb (length table) (suc (length (uppers table)))
 endless (grid rates endpoints rows) = true
 endless (lines table) = true
@@ -109,7 +109,7 @@ module _ (ground : Ground) (rate endpoint : ℕ) where
   within : (table : List Range) → endless (ranges table) ≡ true → past rate endpoint table ≡ false
   within table e = never-past rate endpoint table (eqb-true (length table) (suc (length (uppers table))) e)
 
-  table-beyond : (t : Table) → inOrder t ≡ true → endless t ≡ true → beyondTable t ground rate endpoint ≡ isBeyond (readIn t ground rate endpoint)
+  pub table-beyond : (t : Table) → inOrder t ≡ true → endless t ≡ true → beyondTable t ground rate endpoint ≡ isBeyond (readIn t ground rate endpoint)
   unfolding beyondTable aboveLast lastInUse readIn inOrder byRange answered
   table-beyond (ranges table) o e =
       ap (λ t. both t (not (eqb (inUse (map (λ range. distance (markOf range)) table) (length table - 1)) mileLimit))) (within table e)

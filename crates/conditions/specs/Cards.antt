@@ -38,6 +38,7 @@ use Rattle.form.specs.declared.Shape.the-variants as shape
 use Rattle.ranges.specs.declared.Bounds.{Bounds}
 use Rattle.ranges.specs.Ranges.{badPounds, badArea, badWall, badHeat, signed, tenthsOf, badTenths, isOutOfRange, boundsIf, boundsOf}
 use Rattle.meaning.specs.declared.Meaning.{Meaning}
+use Rattle.meaning.specs.declared.Meaning.the-variants as meaning
 use Rattle.form.specs.Form.{stateOf, groundOf, heldOf, heatFits, shapedHeat, shapedHeld, shapedState, shapedBlank, shapeOf, blank}
 use Rattle.meaning.specs.Reading.{badNumber, substanceOf, toxicBounded, isListed, meaningIf, toxicMeaning, flammableOf, shaped, meaningOf}
 use Rattle.meaning.specs.States.{by-state}
@@ -65,15 +66,17 @@ behindForm card = firstOf (drop 2 (ofCard card 0))
 
 -- ---- a check is a line of the table: where the same test decides both, and what comes behind them is the same
 
--- a check of a meaning
-meaning-line : (n : ℕ) (b : Bool) (r : Refusal) (further : Meaning) {v : Verdict} → (b ≡ false → verdictOf (answerFor further n) ≡ v) → verdictOf (answerFor (meaningIf b r further) n) ≡ pick b r v
-meaning-line n true r further h = refl
-meaning-line n false r further h = h refl
+-- of any call, by what it makes of a meaning, where it passes a refusal on
+module _ (told : Meaning → Verdict) (refusing : (r : Refusal) → told (meaning.Refused r) ≡ refused r) where
+  -- a check of a meaning
+  meaning-line : (b : Bool) (r : Refusal) (further : Meaning) {v : Verdict} → (b ≡ false → told further ≡ v) → told (meaningIf b r further) ≡ pick b r v
+  meaning-line true r further h = refusing r
+  meaning-line false r further h = h refl
 
--- a check of a toxic card's ranges; the line may say its test in other words
-bounds-line : (n : ℕ) (f : Fields) (x : Toxic) (standing : Standing) (b t : Bool) (r : Refusal) (further : Bounds) {v : Verdict} → b ≡ t → (b ≡ false → verdictOf (answerFor (toxicBounded further f x standing) n) ≡ v) → verdictOf (answerFor (toxicBounded (boundsIf b r further) f x standing) n) ≡ pick t r v
-bounds-line n f x standing true t r further {v} e h = ap (λ c. pick c r v) e
-bounds-line n f x standing false t r further {v} e h = h refl ∙ ap (λ c. pick c r v) e
+  -- a check of a toxic card's ranges; the line may say its test in other words
+  bounds-line : (f : Fields) (x : Toxic) (standing : Standing) (b t : Bool) (r : Refusal) (further : Bounds) {v : Verdict} → b ≡ t → (b ≡ false → told (toxicBounded further f x standing) ≡ v) → told (toxicBounded (boundsIf b r further) f x standing) ≡ pick t r v
+  bounds-line f x standing true t r further {v} e h = refusing r ∙ ap (λ c. pick c r v) e
+  bounds-line f x standing false t r further {v} e h = h refl ∙ ap (λ c. pick c r v) e
 
 -- a line whose test fails is passed over
 unmet : (b : Bool) (r : Refusal) {v w : Verdict} → b ≡ false → v ≡ w → v ≡ pick b r w
@@ -97,7 +100,7 @@ blank-refused : (b : Bool) {r : Refusal} → shapedBlank b ≡ shape.Refused r �
 blank-refused true e = let z : _≡_ {A = ℕ} 0 1 = cc in clash z
 blank-refused false e = cc
 
-form-refused : (f : Fields) {r : Refusal} → shapeOf f ≡ shape.Refused r → refusal.Form ≡ r
+pub form-refused : (f : Fields) {r : Refusal} → shapeOf f ≡ shape.Refused r → refusal.Form ≡ r
 unfolding shapeOf
 form-refused f {r} e = go (eqb (f .kind) 1) (eqb (f .kind) 2) e
   where
@@ -165,6 +168,38 @@ module _ (card : List ℕ) where
 
 -- ---- a toxic card
 
+-- what 7 to 9, 14 to 16 and 10 come to, in front of a verdict
+abbrev pub upToMismatch : List ℕ → Verdict → Verdict
+upToMismatch card further =
+    pick (badCas card) refusal.Unlisted
+    (pick (badPounds (fieldsOf card .pounds)) refusal.Quantity
+    (pick (badArea (byteAt card 3) (fieldsOf card .area)) refusal.Area
+    (pick (badWall (fieldsOf card .wall)) refusal.Wall
+    (pick (badTemperature card) refusal.Temperature
+    (pick (badConcentration card) refusal.Concentration
+    (pick (mismatched card) refusal.Mismatch further))))))
+
+-- what any call makes of a toxic card whose form is sound: these in turn, and behind them what it makes of the card in meaning
+pub toxic-verdict : (told : Meaning → Verdict) (refusing : (r : Refusal) → told (meaning.Refused r) ≡ refused r) (card : List ℕ) (standing : Standing) (v : Verdict) → shapeOf (fieldsOf card) ≡ shape.Toxic standing → told (meaning.Toxic (cardFrom (fieldsOf card) standing)) ≡ pick (isMismatch (planOf (cardFrom (fieldsOf card) standing))) refusal.Mismatch v → told (toxicMeaning (substanceOf (fieldsOf card)) (fieldsOf card) standing) ≡ upToMismatch card v
+unfolding toxicMeaning boundsOf fieldsOf
+toxic-verdict told refusing card standing v e h =
+    let f : Fields = fieldsOf card in
+    let x : Toxic = substanceOf f in
+    let from = toxic-shape f e in
+    rw (listed-is card (from .kind))
+    (meaning-line told refusing (not (isListed x)) _ _
+    (λ l.
+    bounds-line told refusing f x standing (badPounds (f .pounds)) _ _ _ refl
+    (λ _. bounds-line told refusing f x standing (badArea (f .containment) (f .area)) _ _ _ refl
+    (λ _. bounds-line told refusing f x standing (badWall (f .wall)) _ _ _ refl
+    (λ _. bounds-line told refusing f x standing (badTenths (tenthsOf f)) _ _ _ (heat-is card)
+    (λ _. bounds-line told refusing f x standing (isOutOfRange x) _ _ _ (concentration-is card (not-false (isListed x) l))
+    (λ r. h ∙ ap (λ m. pick m refusal.Mismatch v) (sym (mismatch-is card standing from (not-false (isListed x) l) r)))))))))
+
+-- what the register's call makes of a meaning
+abbrev verdictFor : ℕ → Meaning → Verdict
+verdictFor n m = verdictOf (answerFor m n)
+
 plan-verdict : (n : ℕ) (p : Planned) (card : ToxicCard) → verdictOf (plannedAnswer p n card) ≡ pick (isMismatch p) refusal.Mismatch (pick (beyondPlan p (card .ground)) refusal.Beyond passed)
 plan-verdict n (planned.Planned s) card =
     go (readingOf (s .table) (card .ground) (s .rate .0) (s .endpoint))
@@ -175,23 +210,13 @@ plan-verdict n (planned.Planned s) card =
     go reading.Beyond = refl
 plan-verdict n planned.Mismatch card = refl
 
-toxic-verdict : (card : List ℕ) (n : ℕ) (standing : Standing) → shapeOf (fieldsOf card) ≡ shape.Toxic standing → verdictOf (answerFor (toxicMeaning (substanceOf (fieldsOf card)) (fieldsOf card) standing) n) ≡ behindForm card
-unfolding toxicMeaning boundsOf fieldsOf ofCard firstOf
-toxic-verdict card n standing e =
-    let f : Fields = fieldsOf card in
-    let x : Toxic = substanceOf f in
-    let made : ToxicCard = cardFrom f standing in
-    let from = toxic-shape f e in
-    rw (listed-is card (from .kind))
-    (meaning-line n (not (isListed x)) _ _
-    (λ l.
-    bounds-line n f x standing (badPounds (f .pounds)) _ _ _ refl
-    (λ _. bounds-line n f x standing (badArea (f .containment) (f .area)) _ _ _ refl
-    (λ _. bounds-line n f x standing (badWall (f .wall)) _ _ _ refl
-    (λ _. bounds-line n f x standing (badTenths (tenthsOf f)) _ _ _ (heat-is card)
-    (λ _. bounds-line n f x standing (isOutOfRange x) _ _ _ (concentration-is card (not-false (isListed x) l))
-    (λ r. plan-verdict n (planOf made) made
-    ∙ ap₂ (λ m b. pick m refusal.Mismatch (pick b refusal.Beyond passed)) (sym (mismatch-is card standing from (not-false (isListed x) l) r)) (sym (beyond-toxic card standing from)))))))))
+toxic-card-verdict : (card : List ℕ) (n : ℕ) (standing : Standing) → shapeOf (fieldsOf card) ≡ shape.Toxic standing → verdictFor n (toxicMeaning (substanceOf (fieldsOf card)) (fieldsOf card) standing) ≡ behindForm card
+unfolding ofCard firstOf
+toxic-card-verdict card n standing e =
+    let made : ToxicCard = cardFrom (fieldsOf card) standing in
+    toxic-verdict (verdictFor n) (λ r. refl) card standing (pick (beyond card) refusal.Beyond passed) e
+    (plan-verdict n (planOf made) made
+    ∙ ap (λ b. pick (isMismatch (planOf made)) refusal.Mismatch (pick b refusal.Beyond passed)) (sym (beyond-toxic card standing (toxic-shape (fieldsOf card) e))))
 
 -- ---- a flammable card
 
@@ -223,9 +248,9 @@ flammable-verdict card n e =
     let kind = flammable-shape f e in
     let b = flammable-blank f e in
     rw (cas-flammable card kind)
-    (meaning-line n (not (isFlammable (f .cas))) _ _
+    (meaning-line (verdictFor n) (λ r. refl) (not (isFlammable (f .cas))) _ _
     (λ l.
-    meaning-line n (badPounds (f .pounds)) _ _
+    meaning-line (verdictFor n) (λ r. refl) (badPounds (f .pounds)) _ _
     (λ _.
     unmet (badArea (byteAt card 3) (f .area)) refusal.Area (area-blank card b)
     (unmet (badWall (f .wall)) refusal.Wall (wall-blank card b)
@@ -243,7 +268,7 @@ flammable-verdict card n e =
 
 -- where the form is refused, what comes behind it does not count
 shape-verdict : (card : List ℕ) (n : ℕ) (s : Shape) → shapeOf (fieldsOf card) ≡ s → verdictOf (answerFor (shaped s (fieldsOf card)) n) ≡ pick (isRefused s) refusal.Form (behindForm card)
-shape-verdict card n (shape.Toxic standing) e = toxic-verdict card n standing e
+shape-verdict card n (shape.Toxic standing) e = toxic-card-verdict card n standing e
 shape-verdict card n shape.Flammable e = flammable-verdict card n e
 shape-verdict card n (shape.Refused r) e = ap refused (sym (form-refused (fieldsOf card) e))
 
@@ -251,7 +276,7 @@ shape-verdict card n (shape.Refused r) e = ap refused (sym (form-refused (fields
 pub card-verdict : (card : List ℕ) (last : ℕ) → verdictOf (answerOf card last) ≡ firstOf (ofCard card last)
 unfolding answerOf meaningOf ofCard firstOf
 card-verdict card last =
-    meaning-line (fieldsOf card .number) (badNumber (fieldsOf card .number) last) _ _
+    meaning-line (verdictFor (fieldsOf card .number)) (λ r. refl) (badNumber (fieldsOf card .number) last) _ _
     (λ _.
     shape-verdict card (fieldsOf card .number) (shapeOf (fieldsOf card)) refl
     ∙ ap (λ t. pick t refusal.Form (behindForm card)) (sym (form-is card)))
