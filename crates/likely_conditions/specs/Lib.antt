@@ -1,0 +1,4 @@
+pub mod Conditions
+pub mod Claim
+pub mod Beyond
+pub mod Exactly
