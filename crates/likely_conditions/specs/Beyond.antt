@@ -27,7 +27,7 @@ use Rattle.dispersion.specs.Tables.{Table, ranges, grid, lines, unprinted, rate
 use Rattle.dispersion.specs.Laws.{inOrder}
 use Rattle.release.specs.declared.Containment.{Containment}
 use Rattle.release.specs.declared.Containment.the-variants.{Open, Dike, Building, ShedWithDoors}
-use Rattle.release.specs.Pool.{beyondDike}
+use Rattle.pool_area.specs.Pool.{beyondDike}
 use Rattle.which_table.specs.declared.State.{State}
 use Rattle.which_table.specs.declared.State.the-variants as state
 use Rattle.factors.specs.declared.Factors.{Factors}
