@@ -5,6 +5,9 @@ use mathlib.Core.Path.{_≡_, _∙_, ap}
 use Rattle.card.specs.declared.Class.{Class}
 use Rattle.comma.specs.declared.Converted.{Converted}
 use Rattle.walk.specs.declared.Outcome.{Outcome}
+use lib.Ieee.{Float}
+use Rattle.likely_scenario.specs.declared.LikelyAnswer.{LikelyAnswer}
+use Rattle.likely_words.specs.LikelyWords.{likelyCode, tableAfter, foundAfter, hundredthsAfter}
 use Rattle.words.specs.Words.{codeOf, wordAfter, conversionCode, conversionAt}
 
 module _ (x y : Outcome) (e : x ≡ y) (n : ℕ) where
@@ -20,3 +23,17 @@ module _ (x y : Converted) (e : x ≡ y) (n : ℕ) where
 
   pub call-at : n ≡ conversionAt x → n ≡ conversionAt y
   call-at g = g ∙ ap conversionAt e
+
+-- a likely scenario, by what is told of the call's answer
+module _ (x v : LikelyAnswer) (e : x ≡ v) where
+  pub likely-code : (r : ℕ) → r ≡ likelyCode x → r ≡ likelyCode v
+  likely-code r q = q ∙ ap likelyCode e
+
+  pub likely-table : (now before : ℕ) → now ≡ tableAfter x before → now ≡ tableAfter v before
+  likely-table now before q = q ∙ ap (λ a. tableAfter a before) e
+
+  pub likely-found : (now before : ℕ) → now ≡ foundAfter x before → now ≡ foundAfter v before
+  likely-found now before q = q ∙ ap (λ a. foundAfter a before) e
+
+  pub likely-hundredths : (now before : Float) → now ≡ hundredthsAfter x before → now ≡ hundredthsAfter v before
+  likely-hundredths now before q = q ∙ ap (λ a. hundredthsAfter a before) e

@@ -1,5 +1,6 @@
 // The register behind a C interface: a call that answers it and one that tells the leaders after its first cards, whose result and
-// two farthest cards are words; and two that read it from comma lines and write it as such, each with one word beside its result.
+// two farthest cards are words; two that read it from comma lines and write it as such, each with one word beside its result; and one
+// that tells a card's likely scenario, by three words.
 ghost use mathlib.Core.Path.{_≡_};
 ghost use lib.ListN.{length};
 ghost use Rattle.card.specs.declared.Class.the-variants.{Toxic, Flammable};
@@ -8,6 +9,8 @@ ghost use Rattle.prefix.specs.Prefix.{prefixOf};
 ghost use Rattle.comma.specs.Text.{readingOf, readInto};
 ghost use Rattle.write_lines.specs.Writing.{writingOf, writeInto};
 ghost use Rattle.words.specs.Words.{codeOf, wordAfter, conversionCode, conversionAt};
+ghost use Rattle.likely_scenario.specs.LikelyScenario.{likelyOf};
+ghost use Rattle.likely_words.specs.LikelyWords.{likelyCode, tableAfter, foundAfter, hundredthsAfter};
 
 // Answers a register into a lent buffer. On acceptance 0 is returned and the two words are set; on a refusal its word is
 // returned, and neither a word nor a byte changes.
@@ -65,4 +68,24 @@ pub extern "C" fn rings_write_lines(register: &[u8], text: &mut [u8], at: &mut u
     let converted = write_lines::write(register, text);
     *at = words::conversion_at(converted);
     words::conversion_code(converted)
+}
+
+// Tells the likely scenario of a card's 24 bytes at a supplied rate and duration. 0 is returned and the three words are set; on a
+// refusal its word is returned, and none of the three changes.
+#[no_mangle]
+pub extern "C" fn rings_likely(
+    card: &[u8; 24],
+    rate: u64,
+    minutes: u32,
+    table: &mut u64,
+    found: &mut u64,
+    hundredths: &mut f64,
+) -> u64
+    ensures { λ r. ⌜ r ≡ likelyCode (likelyOf (now (card .entry)) rate minutes) ⌝ }
+    ensures { λ _. ⌜ now (table .exit) ≡ tableAfter (likelyOf (now (card .entry)) rate minutes) (now (table .entry)) ⌝ }
+    ensures { λ _. ⌜ now (found .exit) ≡ foundAfter (likelyOf (now (card .entry)) rate minutes) (now (found .entry)) ⌝ }
+    ensures { λ _. ⌜ now (hundredths .exit) ≡ hundredthsAfter (likelyOf (now (card .entry)) rate minutes) (now (hundredths .entry)) ⌝ }
+{
+    let answer = likely_scenario::likely_of(card, rate, minutes);
+    likely_words::tell_likely(answer, table, found, hundredths)
 }

@@ -21,7 +21,7 @@ fn word_of(leader: Farthest) -> u64
 }
 
 // A refusal as a word: its number above thirty-two bits of place.
-fn code_of(refusal: Refusal, place: u32) -> u64
+pub fn code_of(refusal: Refusal, place: u32) -> u64
     ensures { λ r. ⌜ r ≡ refusalCode refusal place ⌝ }
 {
     let number = refusals::number(refusal) as u64;
