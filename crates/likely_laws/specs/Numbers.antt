@@ -54,7 +54,7 @@ ratesIn (grid rates endpoints rows) = rates
 ratesIn (lines table) = map rateOf table
 ratesIn unprinted = []
 
--- the entries of the column that a ground and an endpoint read
+-- the entries of the column that a ground and an endpoint read; in a table by endpoints, of each row the largest from that column on
 abbrev pub entriesIn : Table → Ground → ℕ → List ℕ
 entriesIn (ranges table) ground endpoint = []
 entriesIn (grid rates endpoints rows) ground endpoint = fromColumn (closestColumn endpoint endpoints) rows
