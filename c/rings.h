@@ -1,7 +1,7 @@
 /*
- * The ring register: worst-case distances of a register of cards, read from the tables of the EPA's guidance, and
- * registers from comma lines and back. Four calls, proved in crates/rings_c; link target/staticlib/librings_c.a
- * (written by `rt staticlib rings_c`).
+ * The ring register: worst-case distances of a register of cards, read from the tables of the EPA's guidance, registers
+ * from comma lines and back, and the likely distance of a card at a rate that is supplied. Five calls, proved in
+ * crates/rings_c; link target/staticlib/librings_c.a (written by `rt staticlib rings_c`).
  */
 #ifndef RINGS_H
 #define RINGS_H
@@ -21,6 +21,7 @@ extern "C" {
 #define RINGS_MAX_LINE 200                                                     /* bytes of a comma line, read */
 #define RINGS_MAX_STRICT_LINE 59                                               /* written, with its line feed */
 #define RINGS_MAX_STRICT_LEN (RINGS_MAX_CARDS * RINGS_MAX_STRICT_LINE)         /* bytes of the lines of any register */
+#define RINGS_MAX_RATE 1000000000                                              /* thousandths that may be supplied */
 
 /*
  * The state of a card, its byte 1: 1 gas, 2 gas liquefied under pressure, 3 gas liquefied by refrigeration alone,
@@ -37,26 +38,39 @@ extern "C" {
  */
 
 /*
- * Why a register or a text is sent back. 1 to 4 and 13 mean no card, and their place is 0; the place of 12 is the
- * line's number, counted from 1. A card is checked in the order 5, 6, 7, 8, 9, 14, 15 (or 16 in state 5), 10, 11.
+ * Why a register, a text or a card is sent back. 1 to 4 and 13 mean no card, and their place is 0; the place of 12 is
+ * the line's number, counted from 1. A card is checked in the order 5, 6, 7, 8, 9, 14, 15 (or 16 in state 5), 10, 11. 17 and
+ * 18 are of rings_likely alone.
  */
 enum rings_refusal {
-    RINGS_LENGTH = 1,        /* under 7 bytes, or the length field is not register_len */
-    RINGS_VERSION = 2,       /* the version is not 1 */
-    RINGS_COUNT = 3,         /* over 2,000 cards, or register_len is not 7 + 24 x cards */
-    RINGS_BUFFER = 4,        /* answers_len is under 16 x cards */
-    RINGS_NUMBER = 5,        /* a card number is zero or not above the last */
-    RINGS_FORM = 6,          /* bytes 0 to 3 are unlisted, or a must-be-zero field is filled */
-    RINGS_UNLISTED = 7,      /* the CAS number is not listed for the kind, or in state 5 not in Exhibit B-3 */
-    RINGS_QUANTITY = 8,      /* pounds out of range */
-    RINGS_AREA = 9,          /* area out of range */
-    RINGS_MISMATCH = 10,     /* state, substance and containment do not go together, or the exhibit has no data */
-    RINGS_BEYOND = 11,       /* beyond the table */
-    RINGS_LINE = 12,         /* a line is not eleven well-formed fields, or has over 200 bytes */
-    RINGS_ROOM = 13,         /* the buffer is too small for what has to be written, or there are over 2,000 lines */
-    RINGS_WALL = 14,         /* wall out of range */
-    RINGS_TEMPERATURE = 15,  /* temperature out of range */
-    RINGS_CONCENTRATION = 16 /* concentration zero, or above the highest that is printed for the substance */
+    RINGS_LENGTH = 1,         /* under 7 bytes, or the length field is not register_len */
+    RINGS_VERSION = 2,        /* the version is not 1 */
+    RINGS_COUNT = 3,          /* over 2,000 cards, or register_len is not 7 + 24 x cards */
+    RINGS_BUFFER = 4,         /* answers_len is under 16 x cards */
+    RINGS_NUMBER = 5,         /* a card number is zero or not above the last */
+    RINGS_FORM = 6,           /* bytes 0 to 3 are unlisted, or a must-be-zero field is filled */
+    RINGS_UNLISTED = 7,       /* the CAS number is not listed for the kind, or in state 5 not in Exhibit B-3 */
+    RINGS_QUANTITY = 8,       /* pounds out of range */
+    RINGS_AREA = 9,           /* area out of range */
+    RINGS_MISMATCH = 10,      /* state, substance and containment do not go together, or the exhibit has no data */
+    RINGS_BEYOND = 11,        /* beyond the table */
+    RINGS_LINE = 12,          /* a line is not eleven well-formed fields, or has over 200 bytes */
+    RINGS_ROOM = 13,          /* the buffer is too small for what has to be written, or there are over 2,000 lines */
+    RINGS_WALL = 14,          /* wall out of range */
+    RINGS_TEMPERATURE = 15,   /* temperature out of range */
+    RINGS_CONCENTRATION = 16, /* concentration zero, or above the highest that is printed for the substance */
+    RINGS_RATE = 17,          /* the supplied rate is zero or above RINGS_MAX_RATE */
+    RINGS_DURATION = 18       /* the supplied duration is zero */
+};
+
+/*
+ * How a likely distance was found: it is printed, at a row's rate, for a range or below the first row; it lies between
+ * those of two rows; or it is 25 miles, beyond which the tables tell nothing apart.
+ */
+enum rings_found {
+    RINGS_PRINTED = 1,
+    RINGS_INTERPOLATED = 2,
+    RINGS_LIMIT = 3
 };
 
 /*
@@ -144,6 +158,31 @@ uint64_t rings_read_lines(const uint8_t *text_ptr, size_t text_len,
 uint64_t rings_write_lines(const uint8_t *register_ptr, size_t register_len,
                            uint8_t *text_ptr, size_t text_len,
                            uint64_t *at);
+
+/*
+ * The likely distance of a toxic card, from the guidance's tables of alternative scenarios, at a rate and a duration that
+ * are supplied. What the card says of its quantity, its containment and its temperature is checked, but does not change it.
+ *
+ * card           the first of the card's 24 bytes, as they stand in a register; they are only read. Its number may be
+ *                anything, zero too.
+ * rate           thousandths of a pound per minute, 1 to RINGS_MAX_RATE.
+ * minutes        how long it lasts, 1 or more: up to 10 minutes select a 10-minute table, more a 60-minute one. A
+ *                solution always reads a 10-minute table, and the tables of single substances hold for any duration.
+ * table          set to the number of the table that was read, 14 to 25.
+ * found          set to how the distance was found in it, one of rings_found.
+ * hundredths     set to hundredths of a mile, above 0 and at most 2,500, which is 25 miles and stands with RINGS_LIMIT
+ *                alone. Between two rows it is d0 + (d1 - d0) * ((r - r0) / (r1 - r0)), each operation rounded by itself.
+ *
+ * Returns 0 if there is one. A refusal is its number x 2^32, since its place is always 0, and changes none of the three
+ * words: RINGS_RATE, then RINGS_DURATION; then RINGS_FORM for a card that is not toxic, whatever else is wrong with it; then
+ * those that rings_answer gives for the card, in their order, but for RINGS_NUMBER and RINGS_BEYOND; last RINGS_BEYOND
+ * where the rate is above the last row of the table that is read here, unless its last entry is 25 miles.
+ *
+ * No pointer may be null. The three words overlap neither each other nor the card. None is kept after the call, which
+ * holds no state: threads may call at once, each with its own words.
+ */
+uint64_t rings_likely(const uint8_t *card, uint64_t rate, uint32_t minutes,
+                      uint64_t *table, uint64_t *found, double *hundredths);
 
 #ifdef __cplusplus
 }

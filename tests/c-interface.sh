@@ -1,9 +1,9 @@
 #!/usr/bin/env bash
 # Compiles the C programs against the proved archive. What the example prints is compared with the listings and the leaders,
-# and the comma lines of the examples are read into their registers and written from them.
+# the comma lines of the examples are read into their registers and written from them, and likely distances are found.
 set -euo pipefail
 cd "$(dirname "$0")/.."
-for program in example lines; do
+for program in example lines likely; do
     gcc -std=c11 -Wall -Wextra -Werror -O2 -Ic "c/$program.c" target/staticlib/librings_c.a -o "target/c-$program"
 done
 
@@ -70,3 +70,35 @@ target/c-lines read <examples/document-01.lines >/dev/full 2>target/c-error || s
 test "$status" = 2
 test -s target/c-error
 echo "the C program reads and writes the comma lines of $(ls examples/*.register | wc -l) examples as stored"
+
+# likely distances: the first two fields of a query are what is supplied, the rest is the card's line
+for query in examples/*.query; do
+    IFS=, read -r rate minutes card <"$query" || true
+    expected=$(cat "${query%.query}.likely")
+    case $expected in
+    refused*) refused "$expected" target/c-likely "$rate" "$minutes" <<<"$card" ;;
+    *) target/c-likely "$rate" "$minutes" <<<"$card" | diff - <(echo "$expected") ;;
+    esac
+done
+
+# 17 before 18, and both before the card; then the card, and the table last
+chlorine=1,2,2,0,7782-50-5,2500,0,0,0,0,
+propane=2,0,0,0,74-98-6,10000,0,0,0,13,
+refused "refused 17 at 0" target/c-likely 0 0 <<<"$propane"
+refused "refused 17 at 0" target/c-likely 1000000001 10 <<<"$chlorine"
+refused "refused 17 at 0" target/c-likely 18446744073709551615 10 <<<"$chlorine"
+refused "refused 18 at 0" target/c-likely 500000 0 <<<"$propane"
+refused "refused 6 at 0" target/c-likely 500000 10 <<<"$propane"
+refused "refused 8 at 0" target/c-likely 1000000000 10 <<<"${chlorine/2500/0}"
+refused "refused 11 at 0" target/c-likely 200000001 10 <<<"$chlorine"
+target/c-likely 200000000 4294967295 <<<"$chlorine" | diff - <(echo "24 printed 4.80 407e000000000000")
+
+# a line that is none is named as such, and what is no query is said with status 2
+refused "refused 12 at 1" target/c-likely 500000 10 <<<"$chlorine,"
+refused "refused 12 at 1" target/c-likely 500000 10 < <(head -c 1000 /dev/zero)
+fails 2 target/c-likely 500000 10 </dev/null
+fails 2 target/c-likely 500000 -1 <<<"$chlorine"
+fails 2 target/c-likely 500000 4294967296 <<<"$chlorine"
+fails 2 target/c-likely 500000 10 <examples
+fails 2 target/c-likely
+echo "the C program finds the likely distances of $(ls examples/*.query | wc -l) examples as stored"

@@ -1,6 +1,6 @@
 //! The proved library, called through its C interface.
 
-use crate::reference::{Accepted, Farthest, Refused};
+use crate::reference::{Accepted, Farthest, Found, Likely, Refused, CARD_LEN};
 
 mod c {
     extern "C" {
@@ -32,6 +32,14 @@ mod c {
             text_ptr: *mut u8,
             text_len: usize,
             at: *mut u64,
+        ) -> u64;
+        pub fn rings_likely(
+            card: *const u8,
+            rate: u64,
+            minutes: u32,
+            table: *mut u64,
+            found: *mut u64,
+            hundredths: *mut f64,
         ) -> u64;
     }
 }
@@ -95,11 +103,50 @@ pub fn write_lines_words(register: &[u8], text: &mut [u8], at: &mut u64) -> u64 
     unsafe { c::rings_write_lines(register.as_ptr(), register.len(), text.as_mut_ptr(), text.len(), at) }
 }
 
+/// The alternative distance of a card, as [`crate::reference::likely`] finds it.
+pub fn likely(card: &[u8; CARD_LEN], rate: u64, minutes: u32) -> Result<Likely, Refused> {
+    let (mut table, mut found, mut hundredths) = (0, 0, 0.0);
+    match likely_words(card, rate, minutes, &mut table, &mut found, &mut hundredths) {
+        0 => Ok(Likely { table: table as u8, found: found_of(found), hundredths }),
+        refusal => Err(refused(refusal)),
+    }
+}
+
+/// The call as C sees it, for tests that look at its words: 0 or a refusal is returned, and the three words are the
+/// table's number, how the distance was found, and its hundredths of a mile, all left alone on refusal.
+#[allow(unsafe_code)]
+pub fn likely_words(
+    card: &[u8; CARD_LEN],
+    rate: u64,
+    minutes: u32,
+    table: &mut u64,
+    found: &mut u64,
+    hundredths: &mut f64,
+) -> u64 {
+    // SAFETY: as in `answer_words`. The card has the 24 bytes that the library reads.
+    unsafe { c::rings_likely(card.as_ptr(), rate, minutes, table, found, hundredths) }
+}
+
 /// An answer's three words: 0 and those of the farthest cards, or a refusal's number × 2^32 + its place.
 fn accepted(code: u64, toxic: u64, flammable: u64) -> Result<Accepted, Refused> {
     match code {
         0 => Ok(Accepted { toxic: farthest(toxic), flammable: farthest(flammable) }),
-        refusal => Err(Refused { number: (refusal >> 32) as u8, place: refusal & 0xffff_ffff }),
+        refusal => Err(refused(refusal)),
+    }
+}
+
+/// A refusal's number × 2^32 + its place.
+fn refused(word: u64) -> Refused {
+    Refused { number: (word >> 32) as u8, place: word & 0xffff_ffff }
+}
+
+/// How a distance was found, by its number in the C interface.
+fn found_of(word: u64) -> Found {
+    match word {
+        1 => Found::Printed,
+        2 => Found::Interpolated,
+        3 => Found::Limit,
+        other => panic!("the library has no {other} for how a distance was found"),
     }
 }
 

@@ -1,9 +1,11 @@
 //! The second implementation: document 01, and document 02 as far as it has landed, in plain safe Rust.
 //!
 //! Bytes become cards ([`card`]), a toxic card a release ([`release`]), and a release or a quantity a distance, read
-//! from the printed tables ([`printed`]). Comma lines become registers and registers comma lines ([`lines`]).
+//! from the printed tables ([`printed`]). A toxic card with a rate and a duration becomes a likely distance ([`likely`]).
+//! Comma lines become registers and registers comma lines ([`lines`]).
 
 mod card;
+mod likely;
 mod lines;
 pub mod printed;
 mod release;
@@ -11,6 +13,7 @@ mod release;
 mod tests;
 mod units;
 
+pub use likely::{likely, Found, Likely};
 pub use lines::{read_lines, write_lines, MAX_LINE, MAX_STRICT_LINE};
 
 use card::{Card, Meaning};
@@ -77,6 +80,8 @@ enum Fault {
     Wall = 14,
     Temperature = 15,
     Concentration = 16,
+    Rate = 17,
+    Duration = 18,
 }
 
 impl Fault {
@@ -190,7 +195,7 @@ fn answer_of(card: &Card, printed: &Printed) -> Result<Answer, Fault> {
     match &card.meaning {
         Meaning::Toxic(toxic) => {
             let release = toxic.release()?;
-            let table = toxic.table(release.span);
+            let table = toxic.worst_case_table(release.span);
             Ok(Answer {
                 number: card.number,
                 class: Class::Toxic,

@@ -337,18 +337,15 @@ fn edge_wall(rng: &mut Rng, pounds: u32, area: u32, wanted: u64, toxic: &Toxic) 
 
 /// A rate at a row, a midpoint or a range's bound of a table, in thousandths.
 fn edge_rate(rng: &mut Rng, toxic: &Toxic) -> u64 {
-    let printed = printed();
+    let tables = printed().worst_case();
     if toxic.plume == Plume::Neutral && rng.one_in(2) {
-        let table = rng.pick(printed.neutral_tables());
+        let table = rng.pick(tables.neutral());
         let bound = rng.pick(table.bounds());
         // The least thousandths at which rate / endpoint reaches the bound.
         return (bound * toxic.endpoint).div_ceil(1_000);
     }
-    let table = if WITH_OWN_TABLE.contains(&toxic.cas) {
-        rng.pick(printed.specific_tables())
-    } else {
-        rng.pick(printed.dense_tables())
-    };
+    let table =
+        if WITH_OWN_TABLE.contains(&toxic.cas) { rng.pick(tables.specific()) } else { rng.pick(tables.dense()) };
     let edges = if rng.one_in(2) { table.rates() } else { table.cuts() };
     *rng.pick(edges)
 }

@@ -2,11 +2,12 @@
 //!
 //! Every byte of the lent buffer, of the bytes around it and of the two farthest words is compared, on acceptance and
 //! on refusal. Then each register is written as comma lines, with the same care, and the lines of an accepted one are
-//! read back. The leaders after the first cards are compared in `prefixes`, on other registers made in the same ways, and
-//! sheds with doors beside buildings in `sheds`.
+//! read back. The leaders after the first cards are compared in `prefixes`, on other registers made in the same ways,
+//! sheds with doors beside buildings in `sheds`, and likely scenarios, card by card, in `likely`.
 //! Run with `cargo test --release --test differential -- --nocapture` to see the counts.
 
 mod lent;
+mod likely;
 mod prefixes;
 mod sheds;
 
@@ -26,12 +27,13 @@ const LEAST_OF_EACH: usize = 1_000;
 const LEAST_WITH_SOLUTIONS: usize = 400_000;
 
 /// How often each refusal was met, by its number.
-type Refusals = [usize; 17];
+type Refusals = [usize; 19];
 
-/// The refusals that a register is never answered with: they are of comma lines alone.
-const NOT_OF_ANSWERS: [usize; 2] = [12, 13];
-/// The refusals that a register is never written with: the writer has neither an answer buffer nor a line to read.
-const NOT_OF_WRITING: [usize; 2] = [4, 12];
+/// The refusals that a register is never answered with: they are of comma lines alone, or of likely scenarios.
+const NOT_OF_ANSWERS: [usize; 4] = [12, 13, 17, 18];
+/// The refusals that a register is never written with: the writer has neither an answer buffer nor a line to read, nor is
+/// it supplied with a rate.
+const NOT_OF_WRITING: [usize; 4] = [4, 12, 17, 18];
 
 #[test]
 fn the_proved_library_and_the_reference_agree() {

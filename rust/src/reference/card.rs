@@ -10,6 +10,9 @@ const AREA: RangeInclusive<u32> = 1..=1_000_000;
 const WALL: RangeInclusive<u16> = 0..=10_000;
 const TEMPERATURE: RangeInclusive<i16> = -500..=3_000;
 
+/// The code of the kind that has a state, a ground and a containment.
+const TOXIC: u8 = 1;
+
 /// The code of the state whose cards have a concentration where others have a temperature.
 pub const SOLUTION: u8 = 5;
 
@@ -78,11 +81,20 @@ impl<'p> Card<'p> {
             return Err(Fault::CardNumber);
         }
         let meaning = match fields.kind {
-            1 => Meaning::Toxic(toxic(&fields, printed)?),
+            TOXIC => Meaning::Toxic(toxic(&fields, printed)?),
             2 => flammable(&fields, printed)?,
             _ => return Err(Fault::Form),
         };
         Ok(Card { number: fields.number, meaning })
+    }
+}
+
+impl<'p> ToxicCard<'p> {
+    /// Reads a card that has to be toxic, whatever its number: any other is 6, however else it is faulty.
+    pub fn read(bytes: &[u8], printed: &'p Printed) -> Result<Self, Fault> {
+        let fields = Fields::cut(bytes);
+        demand(fields.kind == TOXIC, Fault::Form)?;
+        toxic(&fields, printed)
     }
 }
 
@@ -160,7 +172,7 @@ impl Fields {
 }
 
 /// Refuses with a fault unless a condition holds.
-fn demand(holds: bool, fault: Fault) -> Result<(), Fault> {
+pub fn demand(holds: bool, fault: Fault) -> Result<(), Fault> {
     if holds {
         Ok(())
     } else {

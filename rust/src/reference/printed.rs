@@ -5,18 +5,56 @@
 use super::card::Ground;
 use super::units::{Concentration, Miles, Pounds, PoundsPerMinute};
 use std::collections::{BTreeMap, HashSet};
+use std::ops::Range;
 use std::sync::LazyLock;
 
 /// The number of the table for blasts.
 pub(super) const BLAST_TABLE: u8 = 13;
 
 const NEAREST: Miles = Miles::from_hundredths(10);
-const LIMIT: Miles = Miles::from_hundredths(2_500);
+/// 25 miles, beyond which nothing is told apart.
+pub(super) const LIMIT: Miles = Miles::from_hundredths(2_500);
+
+/// The columns of Exhibits B-2 and B-3 that say how a plume spreads, in the worst case and in alternative ones.
+const PLUME_COLUMNS: [&str; 2] = ["worst_case_table", "alternative_case_table"];
 
 /// The columns of Exhibit B-4 beside the one at 25 °C, which is a factor of 1.
 const TEMPERATURE_COLUMNS: [&str; 5] = ["tcf30", "tcf35", "tcf40", "tcf45", "tcf50"];
 /// The midpoints between the columns of Exhibit B-4, in tenths of a degree Celsius.
 const TEMPERATURE_CUTS: [i16; 5] = [275, 325, 375, 425, 475];
+
+/// Tables 1 to 12.
+const WORST_CASE: [&str; 12] = [
+    include_str!("../../../data/table01.tsv"),
+    include_str!("../../../data/table02.tsv"),
+    include_str!("../../../data/table03.tsv"),
+    include_str!("../../../data/table04.tsv"),
+    include_str!("../../../data/table05.tsv"),
+    include_str!("../../../data/table06.tsv"),
+    include_str!("../../../data/table07.tsv"),
+    include_str!("../../../data/table08.tsv"),
+    include_str!("../../../data/table09.tsv"),
+    include_str!("../../../data/table10.tsv"),
+    include_str!("../../../data/table11.tsv"),
+    include_str!("../../../data/table12.tsv"),
+];
+/// Tables 14 to 25, in the same order.
+const ALTERNATIVE: [&str; 12] = [
+    include_str!("../../../data/table14.tsv"),
+    include_str!("../../../data/table15.tsv"),
+    include_str!("../../../data/table16.tsv"),
+    include_str!("../../../data/table17.tsv"),
+    include_str!("../../../data/table18.tsv"),
+    include_str!("../../../data/table19.tsv"),
+    include_str!("../../../data/table20.tsv"),
+    include_str!("../../../data/table21.tsv"),
+    include_str!("../../../data/table22.tsv"),
+    include_str!("../../../data/table23.tsv"),
+    include_str!("../../../data/table24.tsv"),
+    include_str!("../../../data/table25.tsv"),
+];
+/// Where the dense ones stand among twelve tables.
+const DENSE: Range<usize> = 4..8;
 
 static PRINTED: LazyLock<Printed> = LazyLock::new(Printed::read);
 
@@ -31,6 +69,12 @@ pub struct Printed {
     solutes: Listed<Solute>,
     flammables: Listed<Flammable>,
     quantities: Vec<u64>,
+    worst_case: Tables,
+    alternative: Tables,
+}
+
+/// The tables of toxic releases, four of each form, in one weather.
+pub struct Tables {
     neutral: [RatioTable; 4],
     dense: [RateTable; 4],
     specific: [RateTable; 4],
@@ -55,9 +99,11 @@ pub struct Toxic {
     pub endpoint: u64,
     /// What the exhibit's worst-case column says.
     pub plume: Plume,
+    /// What its alternative-case column says. Exhibit B-1 has one column for both.
+    pub alternative_plume: Plume,
     /// Which exhibit the row is of, with the liquid factors that it prints.
     pub phase: Phase,
-    /// The column of Tables 5 to 8 that is closest to the endpoint.
+    /// The column of Tables 5 to 8, and of 18 to 21, that is closest to the endpoint.
     dense_column: usize,
 }
 
@@ -122,14 +168,31 @@ pub struct Flammable {
     by_quantity: Vec<Miles>,
 }
 
-/// A table for toxic releases, by its number; a substance's own table has a column for each ground.
+/// A table for toxic releases, by its number in the worst case; a substance's own table has a column for each ground.
+/// Likely scenarios are read from the table of the same form whose number is thirteen higher.
 pub(super) enum Table {
     Neutral(u8),
     Dense(u8),
     Specific(u8, Ground),
 }
 
-/// One of Tables 1 to 4.
+/// What a table has at a rate.
+#[derive(Debug, Clone, Copy, PartialEq, Eq)]
+pub(super) enum Reading {
+    /// A range's entry in use, or that of the row with this rate, or one that holds for all rates beyond the rows.
+    Entry(Miles),
+    /// The two rows that the rate lies between.
+    Between(Row, Row),
+}
+
+/// A row's rate, with its entry in use in some column.
+#[derive(Debug, Clone, Copy, PartialEq, Eq)]
+pub(super) struct Row {
+    pub rate: PoundsPerMinute,
+    pub miles: Miles,
+}
+
+/// One of Tables 1 to 4 or 14 to 17.
 pub struct RatioTable {
     /// The bounds that two ranges share, rising, in tenths.
     bounds: Vec<u64>,
@@ -139,7 +202,7 @@ pub struct RatioTable {
     end: Option<u64>,
 }
 
-/// One of Tables 5 to 12.
+/// One of Tables 5 to 12 or 18 to 25.
 pub struct RateTable {
     /// The rates of the rows, rising, in thousandths.
     rates: Vec<u64>,
@@ -185,19 +248,14 @@ impl Printed {
         &self.quantities
     }
 
-    /// Tables 1 to 4.
-    pub fn neutral_tables(&self) -> &[RatioTable; 4] {
-        &self.neutral
+    /// Tables 1 to 12.
+    pub fn worst_case(&self) -> &Tables {
+        &self.worst_case
     }
 
-    /// Tables 5 to 8.
-    pub fn dense_tables(&self) -> &[RateTable; 4] {
-        &self.dense
-    }
-
-    /// Tables 9 to 12.
-    pub fn specific_tables(&self) -> &[RateTable; 4] {
-        &self.specific
+    /// Tables 14 to 25.
+    pub fn alternative(&self) -> &Tables {
+        &self.alternative
     }
 
     /// Table 13 at the smallest printed quantity that is at least the card's.
@@ -207,32 +265,42 @@ impl Printed {
     }
 
     fn read() -> Self {
-        let dense = [
-            Sheet::cut(include_str!("../../../data/table05.tsv")),
-            Sheet::cut(include_str!("../../../data/table06.tsv")),
-            Sheet::cut(include_str!("../../../data/table07.tsv")),
-            Sheet::cut(include_str!("../../../data/table08.tsv")),
-        ];
+        let worst_case = WORST_CASE.map(Sheet::cut);
+        let alternative = ALTERNATIVE.map(Sheet::cut);
         let blast = Sheet::cut(include_str!("../../../data/table13.tsv"));
-        let endpoints = shared_endpoints(&dense);
+        let endpoints = shared_endpoints(worst_case[DENSE].iter().chain(&alternative[DENSE]));
         Printed {
             toxics: read_toxics(&endpoints),
             solutes: read_solutes(&endpoints),
             flammables: read_flammables(&blast),
             quantities: rising(blast.header[2..].iter().map(|cell| decimal(cell, 0)).collect()),
-            neutral: [
-                RatioTable::read(include_str!("../../../data/table01.tsv")),
-                RatioTable::read(include_str!("../../../data/table02.tsv")),
-                RatioTable::read(include_str!("../../../data/table03.tsv")),
-                RatioTable::read(include_str!("../../../data/table04.tsv")),
-            ],
-            dense: dense.map(|sheet| RateTable::read_dense(&sheet)),
-            specific: [
-                RateTable::read_specific(include_str!("../../../data/table09.tsv")),
-                RateTable::read_specific(include_str!("../../../data/table10.tsv")),
-                RateTable::read_specific(include_str!("../../../data/table11.tsv")),
-                RateTable::read_specific(include_str!("../../../data/table12.tsv")),
-            ],
+            worst_case: Tables::read(&worst_case),
+            alternative: Tables::read(&alternative),
+        }
+    }
+}
+
+impl Tables {
+    /// Tables 1 to 4, or 14 to 17.
+    pub fn neutral(&self) -> &[RatioTable; 4] {
+        &self.neutral
+    }
+
+    /// Tables 5 to 8, or 18 to 21.
+    pub fn dense(&self) -> &[RateTable; 4] {
+        &self.dense
+    }
+
+    /// Tables 9 to 12, or 22 to 25.
+    pub fn specific(&self) -> &[RateTable; 4] {
+        &self.specific
+    }
+
+    fn read([n0, n1, n2, n3, d0, d1, d2, d3, s0, s1, s2, s3]: &[Sheet; 12]) -> Self {
+        Tables {
+            neutral: [n0, n1, n2, n3].map(RatioTable::read),
+            dense: [d0, d1, d2, d3].map(RateTable::read_dense),
+            specific: [s0, s1, s2, s3].map(RateTable::read_specific),
         }
     }
 }
@@ -244,20 +312,44 @@ impl Table {
         }
     }
 
-    /// The distance for a rate, or `None` beyond the table.
+    pub(super) fn alternative_number(&self) -> u8 {
+        self.number() + 13
+    }
+
+    /// The distance for a rate in the worst case, or `None` beyond the table.
     pub(super) fn distance(&self, printed: &Printed, rate: PoundsPerMinute, substance: &Toxic) -> Option<Miles> {
+        let Tables { neutral, dense, specific } = &printed.worst_case;
         match *self {
-            Table::Neutral(number) => printed.neutral[usize::from(number) - 1].distance(rate, substance.endpoint),
-            Table::Dense(number) => printed.dense[usize::from(number) - 5].distance(rate, substance.dense_column),
-            Table::Specific(number, ground) => {
-                let column = match ground {
-                    Ground::Rural => 0,
-                    Ground::Urban => 1,
-                };
-                printed.specific[usize::from(number) - 9].distance(rate, column)
-            }
+            Table::Neutral(number) => neutral[usize::from(number) - 1].distance(rate, substance.endpoint),
+            Table::Dense(number) => dense[usize::from(number) - 5].distance(rate, substance.dense_column),
+            Table::Specific(number, ground) => specific[usize::from(number) - 9].distance(rate, column_of(ground)),
         }
     }
+
+    /// What the alternative table has at a rate, or `None` beyond it.
+    pub(super) fn alternative(&self, printed: &Printed, rate: PoundsPerMinute, substance: &Toxic) -> Option<Reading> {
+        let Tables { neutral, dense, specific } = &printed.alternative;
+        match *self {
+            Table::Neutral(number) => {
+                neutral[usize::from(number) - 1].distance(rate, substance.endpoint).map(Reading::Entry)
+            }
+            Table::Dense(number) => dense[usize::from(number) - 5].around(rate, substance.dense_column),
+            Table::Specific(number, ground) => specific[usize::from(number) - 9].around(rate, column_of(ground)),
+        }
+    }
+}
+
+/// The column of a ground in a substance's own table.
+fn column_of(ground: Ground) -> usize {
+    match ground {
+        Ground::Rural => 0,
+        Ground::Urban => 1,
+    }
+}
+
+/// What holds above the last row or a closed last range: a last entry of 25 miles, and nothing else.
+fn beyond(in_use: &[Miles]) -> Option<Miles> {
+    in_use.last().copied().filter(|last| *last == LIMIT)
 }
 
 impl RatioTable {
@@ -271,13 +363,12 @@ impl RatioTable {
     fn distance(&self, rate: PoundsPerMinute, endpoint: u64) -> Option<Miles> {
         let scaled = rate.thousandths() * 1_000;
         match self.end {
-            Some(end) if scaled > end * endpoint => self.in_use.last().copied().filter(|&last| last == LIMIT),
+            Some(end) if scaled > end * endpoint => beyond(&self.in_use),
             _ => Some(self.in_use[self.bounds.partition_point(|bound| bound * endpoint <= scaled)]),
         }
     }
 
-    fn read(text: &'static str) -> Self {
-        let sheet = Sheet::cut(text);
+    fn read(sheet: &Sheet) -> Self {
         let mut bounds = Vec::new();
         let mut end = Some(0);
         for row in &sheet.rows {
@@ -316,15 +407,28 @@ impl RateTable {
     /// The entry in use of the closest row, the larger at a midpoint; above the last row only 25 miles is an answer.
     fn distance(&self, rate: PoundsPerMinute, column: usize) -> Option<Miles> {
         let in_use = &self.in_use[column];
-        let (&last_rate, &last) = self.rates.last().zip(in_use.last())?;
-        if rate.thousandths() > last_rate {
-            return (last == LIMIT).then_some(LIMIT);
+        if rate.thousandths() > *self.rates.last()? {
+            return beyond(in_use);
         }
         let row = self.cuts.partition_point(|&cut| cut <= rate.thousandths());
         Some(in_use[row])
     }
 
-    /// Entries in use of Tables 5 to 8: the largest at no greater rate and no lower endpoint.
+    /// The entry in use at a row's rate, of the first row below it, or the two rows around a rate; above the last row
+    /// only 25 miles is an answer.
+    fn around(&self, rate: PoundsPerMinute, column: usize) -> Option<Reading> {
+        let in_use = &self.in_use[column];
+        let row =
+            |place: usize| Row { rate: PoundsPerMinute::from_thousandths(self.rates[place]), miles: in_use[place] };
+        match self.rates.binary_search(&rate.thousandths()) {
+            Ok(place) => Some(Reading::Entry(in_use[place])),
+            Err(0) => Some(Reading::Entry(in_use[0])),
+            Err(place) if place == self.rates.len() => beyond(in_use).map(Reading::Entry),
+            Err(place) => Some(Reading::Between(row(place - 1), row(place))),
+        }
+    }
+
+    /// Entries in use of Tables 5 to 8 and 18 to 21: the largest at no greater rate and no lower endpoint.
     fn read_dense(sheet: &Sheet) -> Self {
         let mut table = Self::read_columns(sheet);
         for left in (0..table.in_use.len() - 1).rev() {
@@ -336,10 +440,9 @@ impl RateTable {
         table
     }
 
-    fn read_specific(text: &'static str) -> Self {
-        let sheet = Sheet::cut(text);
+    fn read_specific(sheet: &Sheet) -> Self {
         assert_eq!(sheet.header, ["rate", "rural", "urban"]);
-        Self::read_columns(&sheet)
+        Self::read_columns(sheet)
     }
 
     /// The table with each column read by itself: the largest at no greater rate.
@@ -383,17 +486,19 @@ impl LiquidFactors {
 }
 
 impl Toxic {
-    fn read(sheet: &Sheet, row: &[&str], plume_column: &str, phase: Phase, endpoints: &[u64]) -> Self {
+    fn read(sheet: &Sheet, row: &[&str], plume_columns: [&str; 2], phase: Phase, endpoints: &[u64]) -> Self {
         let endpoint = decimal(sheet.cell(row, "endpoint"), 5);
+        let [plume, alternative_plume] = plume_columns.map(|column| match sheet.cell(row, column) {
+            "Dense" => Plume::Dense,
+            "Buoyant" => Plume::Neutral,
+            other => panic!("{other} is no kind of plume"),
+        });
         Toxic {
             cas: cas_number(sheet.cell(row, "cas")),
             density_factor: decimal(sheet.cell(row, "df"), 2),
             endpoint,
-            plume: match sheet.cell(row, plume_column) {
-                "Dense" => Plume::Dense,
-                "Buoyant" => Plume::Neutral,
-                other => panic!("{other} is no kind of plume"),
-            },
+            plume,
+            alternative_plume,
             phase,
             dense_column: closest_endpoint(endpoints, endpoint),
         }
@@ -452,7 +557,7 @@ fn read_toxics(endpoints: &[u64]) -> Listed<Toxic> {
     let b4 = Sheet::cut(include_str!("../../../data/b4.tsv"));
     let gases = b1.rows.iter().map(|row| {
         let phase = Phase::Gas { lfb: liquid_factor(b1.cell(row, "lfb")) };
-        Toxic::read(&b1, row, "reference_table", phase, endpoints)
+        Toxic::read(&b1, row, ["reference_table"; 2], phase, endpoints)
     });
     let liquids = b2.rows.iter().map(|row| {
         let cas = b2.cell(row, "cas");
@@ -460,7 +565,7 @@ fn read_toxics(endpoints: &[u64]) -> Listed<Toxic> {
         let b4_row = b4_row.expect("Exhibit B-4 has a row for each liquid");
         let [lfa, lfb] = ["lfa", "lfb"].map(|column| liquid_factor(b2.cell(row, column)));
         let factors = LiquidFactors::read(lfa, lfb, &b4, b4_row);
-        Toxic::read(&b2, row, "worst_case_table", Phase::Liquid(factors), endpoints)
+        Toxic::read(&b2, row, PLUME_COLUMNS, Phase::Liquid(factors), endpoints)
     });
     Listed::new(gases.chain(liquids).collect(), |toxic| toxic.cas)
 }
@@ -470,7 +575,7 @@ fn read_solutes(endpoints: &[u64]) -> Listed<Solute> {
     let mut by_cas: BTreeMap<u32, Vec<(Concentration, Toxic)>> = BTreeMap::new();
     for row in &b3.rows {
         let phase = Phase::Solution { lfa: liquid_factor(b3.cell(row, "lfa_1_5")) };
-        let toxic = Toxic::read(&b3, row, "worst_case_table", phase, endpoints);
+        let toxic = Toxic::read(&b3, row, PLUME_COLUMNS, phase, endpoints);
         by_cas.entry(toxic.cas).or_default().push((concentration(b3.cell(row, "percent")), toxic));
     }
     let solutes = by_cas.into_iter().map(|(cas, rows)| Solute::new(cas, rows));
@@ -482,11 +587,11 @@ fn read_flammables(blast: &Sheet) -> Listed<Flammable> {
     Listed::new(rows.collect(), |flammable| flammable.cas)
 }
 
-/// The endpoints over Tables 5 to 8, in hundred-thousandths: the four tables print the same.
-fn shared_endpoints(dense: &[Sheet; 4]) -> Vec<u64> {
-    let [first, others @ ..] = dense;
-    for other in others {
-        assert_eq!(first.header, other.header, "Tables 5 to 8 share their endpoints");
+/// The endpoints over Tables 5 to 8 and 18 to 21, in hundred-thousandths: the eight tables print the same.
+fn shared_endpoints<'s>(mut dense: impl Iterator<Item = &'s Sheet>) -> Vec<u64> {
+    let first = dense.next().expect("a dense table");
+    for other in dense {
+        assert_eq!(first.header, other.header, "the dense tables share their endpoints");
     }
     rising(first.header[1..].iter().map(|cell| decimal(cell, 5)).collect())
 }
@@ -540,7 +645,8 @@ fn concentration(cell: &str) -> Concentration {
     Concentration::from_tenths(tenths as u16)
 }
 
-/// A printed distance, with the marks for a near and a far one; the only blanks are near ones, in Table 10.
+/// A printed distance, with the marks for a near and a far one; the only blanks are near ones, in the urban columns of
+/// Tables 10 and 22 to 25.
 fn distance(cell: &str) -> Miles {
     match cell {
         "#" | "<0.1" | "<0.1*" | "" => NEAREST,
@@ -593,6 +699,10 @@ mod tests {
         Some(Miles::from_hundredths(hundredths))
     }
 
+    fn ranges(text: &'static str) -> RatioTable {
+        RatioTable::read(&Sheet::cut(text))
+    }
+
     #[test]
     fn a_misprint_shortens_no_ring() {
         // The 0.9 counts for greater rates and for lower endpoints, and for nothing else.
@@ -601,7 +711,7 @@ mod tests {
         assert_eq!(read(0), [miles(30), miles(90), miles(90)]);
         assert_eq!(read(1), [miles(20), miles(90), miles(90)]);
         assert_eq!(read(2), [miles(10), miles(10), miles(20)]);
-        let ranges = RatioTable::read("range\tdistance\n0 - 2\t0.5\n2 - 4\t0.1\n>4\t>25*\n");
+        let ranges = ranges("range\tdistance\n0 - 2\t0.5\n2 - 4\t0.1\n>4\t>25*\n");
         assert_eq!(ranges.in_use, [50, 50, 2_500].map(Miles::from_hundredths));
     }
 
@@ -609,9 +719,9 @@ mod tests {
     fn above_a_closed_last_range_only_25_miles_is_answered() {
         // An endpoint of 1 mg/L, so that the ratio is the rate.
         let read = |table: &RatioTable, thousandths: u64| table.distance(rate(thousandths), 100_000);
-        let near = RatioTable::read("range\tdistance\n0 - 2\t0.1\n2 - 4\t0.3\n");
+        let near = ranges("range\tdistance\n0 - 2\t0.1\n2 - 4\t0.3\n");
         assert_eq!([1_999, 2_000, 4_000, 4_001].map(|r| read(&near, r)), [miles(10), miles(30), miles(30), None]);
-        let far = RatioTable::read("range\tdistance\n0 - 2\t0.1\n2 - 4\t25\n");
+        let far = ranges("range\tdistance\n0 - 2\t0.1\n2 - 4\t25\n");
         assert_eq!(read(&far, 4_001), miles(2_500));
     }
 

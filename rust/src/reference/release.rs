@@ -125,8 +125,18 @@ impl ToxicCard<'_> {
         }
     }
 
-    /// The table to be read, given the duration that a generic one depends on.
-    pub fn table(&self, span: Span) -> Table {
+    /// The table to be read in the worst case, given the duration that a generic one depends on.
+    pub fn worst_case_table(&self, span: Span) -> Table {
+        self.table(self.substance.plume, span)
+    }
+
+    /// The same in an alternative case, where the exhibits have a column of their own for the plume.
+    pub fn alternative_table(&self, span: Span) -> Table {
+        self.table(self.substance.alternative_plume, span)
+    }
+
+    /// The table of the case in which the exhibit says this of the plume.
+    fn table(&self, in_exhibit: Plume, span: Span) -> Table {
         match self.substance.cas {
             AMMONIA if self.state == State::Pressurised => Table::Specific(9, self.ground),
             AMMONIA => Table::Specific(10, self.ground),
@@ -139,7 +149,7 @@ impl ToxicCard<'_> {
                     (Ground::Urban, Span::TenMinutes) => 2,
                     (Ground::Urban, Span::SixtyMinutes) => 3,
                 };
-                match self.plume() {
+                match self.plume(in_exhibit) {
                     Plume::Neutral => Table::Neutral(1 + place),
                     Plume::Dense => Table::Dense(5 + place),
                 }
@@ -148,10 +158,10 @@ impl ToxicCard<'_> {
     }
 
     /// A liquefied gas comes out cold or with droplets, so it is dense whatever the exhibit says of the gas.
-    fn plume(&self) -> Plume {
+    fn plume(&self, in_exhibit: Plume) -> Plume {
         match self.state {
             State::Pressurised | State::Refrigerated => Plume::Dense,
-            State::Gas | State::Liquid(_) | State::Solution(_) => self.substance.plume,
+            State::Gas | State::Liquid(_) | State::Solution(_) => in_exhibit,
         }
     }
 }

@@ -19,8 +19,9 @@ const LEAST_WITH_SHEDS: usize = 400_000;
 /// Of cases that few cards can be.
 const LEAST_OF_SELDOM: usize = 10;
 
-/// The refusals that no shed is answered with: 12 and 13 are of comma lines alone, and a wall is 6, whatever its height.
-const NOT_OF_SHEDS: [usize; 3] = [12, 13, 14];
+/// The refusals that no shed is answered with: 12 and 13 are of comma lines alone, 17 and 18 of likely scenarios, and a wall
+/// is 6, whatever its height.
+const NOT_OF_SHEDS: [usize; 5] = [12, 13, 14, 17, 18];
 
 #[test]
 fn sheds_with_doors_agree() {

@@ -1,6 +1,6 @@
 //! What the files of cases have in common: cards, numbers, bytes and refusals, as they write them.
 
-use rings_second::reference::Refused;
+use rings_second::reference::{Found, Refused};
 use rings_second::samples::Card;
 
 /// A card of ten numbers, the CAS number without hyphens.
@@ -29,6 +29,15 @@ pub fn hex_bytes(text: &str) -> Vec<u8> {
 
 pub fn nibble(digit: u8) -> u8 {
     char::from(digit).to_digit(16).expect("a hexadecimal digit") as u8
+}
+
+/// How a distance was found, in a word.
+pub fn name_of(found: Found) -> &'static str {
+    match found {
+        Found::Printed => "printed",
+        Found::Interpolated => "interpolated",
+        Found::Limit => "limit",
+    }
 }
 
 pub fn refusal(Refused { number, place }: Refused) -> String {

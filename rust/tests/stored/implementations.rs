@@ -2,7 +2,7 @@
 
 #[cfg(feature = "proved")]
 use rings_second::proved;
-use rings_second::reference::{self, Accepted, Refused, ANSWER_LEN, CARD_LEN, HEADER_LEN};
+use rings_second::reference::{self, Accepted, Likely, Refused, ANSWER_LEN, CARD_LEN, HEADER_LEN};
 
 /// Bytes before, at and behind a place in a lent buffer differ, so that a byte that moves is seen.
 const PATTERN: [u8; 7] = [0xa5, 0x5a, 0xff, 0x00, 0x2c, 0x30, 0x0a];
@@ -13,6 +13,7 @@ pub struct Implementation {
     leaders_after: fn(&[u8], usize) -> Result<Accepted, Refused>,
     read_lines: fn(&[u8], &mut [u8]) -> Result<usize, Refused>,
     write_lines: fn(&[u8], &mut [u8]) -> Result<usize, Refused>,
+    likely: fn(&[u8; CARD_LEN], u64, u32) -> Result<Likely, Refused>,
 }
 
 pub static IMPLEMENTATIONS: &[Implementation] = &[
@@ -22,6 +23,7 @@ pub static IMPLEMENTATIONS: &[Implementation] = &[
         leaders_after: reference::leaders_after,
         read_lines: reference::read_lines,
         write_lines: reference::write_lines,
+        likely: reference::likely,
     },
     #[cfg(feature = "proved")]
     Implementation {
@@ -30,6 +32,7 @@ pub static IMPLEMENTATIONS: &[Implementation] = &[
         leaders_after: proved::leaders_after,
         read_lines: proved::read_lines,
         write_lines: proved::write_lines,
+        likely: proved::likely,
     },
 ];
 
@@ -48,6 +51,11 @@ impl Implementation {
     /// The farthest cards among the first so many of a register.
     pub fn leaders_after(&self, register: &[u8], cards: usize) -> Result<Accepted, Refused> {
         (self.leaders_after)(register, cards)
+    }
+
+    /// The alternative distance of a card at a rate that lasts for some minutes.
+    pub fn likely(&self, card: &[u8; CARD_LEN], rate: u64, minutes: u32) -> Result<Likely, Refused> {
+        (self.likely)(card, rate, minutes)
     }
 
     /// The register that a text is read into, in a buffer of a length.

@@ -1,20 +1,22 @@
 //! Every line of `tests/vectors`, whose README tells the form of the files.
 
+use crate::forms::name_of;
 use crate::implementations::{Implementation, IMPLEMENTATIONS};
-use rings_second::reference::{Accepted, Farthest, Refused};
+use rings_second::reference::{Accepted, Farthest, Likely, Refused};
 use std::fs;
 use std::path::Path;
 
-/// The result of an implementation in the words of a file, from the input's bytes and the number beside them: the length
-/// of the buffer, or how many cards.
-type Answer = fn(&Implementation, &[u8], usize) -> String;
+/// The result of an implementation in the words of a file, from the input's bytes and the numbers beside them: the length
+/// of the buffer, how many cards, or a rate and a duration.
+type Answer = fn(&Implementation, &[u8], &[u64]) -> String;
 
 /// The files, and what an implementation says to their lines.
-const FILES: [(&str, Answer); 4] = [
-    ("prefix.tsv", |by, register, cards| led(by.leaders_after(register, cards))),
-    ("read.tsv", |by, text, room| converted(by.register_of(text, room))),
-    ("register.tsv", |by, register, room| answered(by.answers(register, room))),
-    ("write.tsv", |by, register, room| converted(by.lines_of(register, room))),
+const FILES: [(&str, Answer); 5] = [
+    ("likely.tsv", |by, card, query| likely(by, card, query)),
+    ("prefix.tsv", |by, register, cards| led(by.leaders_after(register, only(cards)))),
+    ("read.tsv", |by, text, room| converted(by.register_of(text, only(room)))),
+    ("register.tsv", |by, register, room| answered(by.answers(register, only(room)))),
+    ("write.tsv", |by, register, room| converted(by.lines_of(register, only(room)))),
 ];
 
 #[test]
@@ -43,16 +45,37 @@ fn compare(file: &Path, answer: Answer) -> usize {
     let text = fs::read_to_string(file).expect("a file of vectors");
     for (line, number) in text.lines().zip(1..) {
         let columns: Vec<_> = line.split('\t').collect();
-        let &[input, beside, expected] = columns.as_slice() else {
-            panic!("{}, line {number}: not three columns", file.display());
+        let [input, beside @ .., expected] = columns.as_slice() else {
+            panic!("{}, line {number}: too few columns", file.display());
         };
-        let beside = beside.parse().expect("a length, or how many cards");
+        let beside: Vec<u64> = beside.iter().map(|digits| digits.parse().expect("a number")).collect();
         for implementation in IMPLEMENTATIONS {
-            let met = answer(implementation, &bytes(input), beside);
-            assert_eq!(met, expected, "{}, line {number}: {}", file.display(), implementation.name);
+            let met = answer(implementation, &bytes(input), &beside);
+            assert_eq!(met, *expected, "{}, line {number}: {}", file.display(), implementation.name);
         }
     }
     text.lines().count()
+}
+
+/// The number beside an input that has no other.
+fn only(numbers: &[u64]) -> usize {
+    let &[number] = numbers else {
+        panic!("one number beside the input, not {numbers:?}");
+    };
+    number as usize
+}
+
+fn likely(by: &Implementation, card: &[u8], query: &[u64]) -> String {
+    let &[rate, minutes] = query else {
+        panic!("a rate and a duration, not {query:?}");
+    };
+    let card = card.try_into().expect("24 bytes");
+    match by.likely(card, rate, minutes.try_into().expect("a duration")) {
+        Ok(Likely { table, found, hundredths }) => {
+            format!("ok {table} {} {:016x}", name_of(found), hundredths.to_bits())
+        }
+        Err(refused) => refusal(refused),
+    }
 }
 
 fn answered(result: Result<(Vec<u8>, Accepted), Refused>) -> String {
