@@ -1,3 +1,4 @@
 pub mod Numbers
 pub mod Printed
 pub mod Exhibits
+pub mod Cases
