@@ -1,5 +1,5 @@
 -- One law for each way out of a function that goes by tests: what the tests and the calls on the way say is what the
--- definition says. `search (ends, needs)` puts them to use.
+-- definition says. `search (law, needs)` puts them to use.
 -- Assumes nothing.
 use Prim.Native.Nat.{ℕ, zero, suc, _-_, _≤_, _<_}
 use native.Mathlib.Nat.{not-suc-le-zero}
@@ -86,5 +86,3 @@ module _ (rates : List ℕ) (entry : ℕ → ℕ) (rate at : ℕ) (found : at �
           let here : below ≡ k = omega (arith, b) in
           ap (λ j. betweenRows (getD rates j 0) (entry j) (getD rates (suc k) 0) (entry (suc k)) rate) here
           ∙ sym (simp (ne-eqb (getD rates (suc k) 0) rate m, byFirst))
-
-pub ruleset ends = (row-is, entry-limit, entry-printed, between-limit, between-line, above-limit, above-beyond, read-above, read-first, read-printed, read-between)

@@ -50,5 +50,3 @@ pub scenario-line : {b₀ b₁ b₂ : List ℕ} {at next end : ℕ} (s : LikelyS
     → Wrote b₁ b₂ next end (likelyText (s .distance)) → Wrote b₀ b₂ at end (scenarioLine s)
 unfolding scenarioLine
 scenario-line s table distance = joined table distance
-
-pub ruleset ends = (numbers-text, told-text, printed-text, interpolated-text, limit-text, printed-number, interpolated-number, limit-number, scenario-line)

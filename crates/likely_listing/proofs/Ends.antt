@@ -69,5 +69,3 @@ scenario-carries a s c e = subst AnswerCarries e c
 
 pub answer-carries : (a : LikelyAnswer) (bytes : List ℕ) (rate minutes : ℕ) → a ≡ likelyOf bytes rate minutes → AnswerCarries a
 answer-carries a bytes rate minutes e = subst AnswerCarries (sym e) (answer-number bytes rate minutes)
-
-pub ruleset ends = (card-whole, scenario-line, refused-line, asked-line, malformed-line, long-text, short-text, scenario-carries, answer-carries)

@@ -1,5 +1,5 @@
 -- One law for each way out of a function that goes by tests: what the tests and the calls on the way say is what the
--- definition says. `search (ends, needs)` puts them to use.
+-- definition says. `search (law, needs)` puts them to use.
 -- Assumes nothing.
 use Prim.Native.Nat.{ℕ, _+_, _≤_}
 use mathlib.Core.Path.{_≡_, _∙_, ap, sym}
@@ -117,5 +117,3 @@ module _ (bytes : List ℕ) (rate minutes : ℕ) (b : Bool) (e : b ≡ badRate r
   pub sound : (r : LikelyAnswer) → b ≡ false → (minutes ≡ 0 → ⊥) → r ≡ cardLikely bytes rate minutes → r ≡ likelyOf bytes rate minutes
   unfolding likelyOf
   sound r q n h = rw (sym e ∙ q, ne-eqb minutes 0 n) h
-
-pub ruleset ends = (rate-zero, rate-many, table-is, told-is, told-beyond, planned-none, planned-some, meant-toxic, meant-flammable, meant-refused, shaped-toxic, shaped-flammable, shaped-refused, bad-rate, bad-duration, sound)

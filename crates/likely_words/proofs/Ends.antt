@@ -4,24 +4,11 @@ use Prim.Native.Nat.{ℕ}
 use mathlib.Core.Path.{_≡_, _∙_, ap, sym}
 use lib.Ieee.{Float}
 use Rattle.refusals.specs.declared.Refusal.{Refusal}
-use Rattle.interpolation.specs.declared.Likely.{Likely}
-use Rattle.interpolation.specs.declared.Likely.the-variants.{Printed, Interpolated, Limit}
 use Rattle.likely_scenario.specs.declared.LikelyScenario.{LikelyScenario}
 use Rattle.likely_scenario.specs.declared.LikelyAnswer.{LikelyAnswer}
 use Rattle.likely_scenario.specs.declared.LikelyAnswer.the-variants as answer
 use Rattle.words.specs.Words.{refusalCode}
 use Rattle.likely_words.specs.LikelyWords.{foundOf, hundredthsOf, likelyCode, tableAfter, foundAfter, hundredthsAfter}
-
--- a distance
-module _ (l : Likely) (x : Float) where
-  pub printed-hundredths : l ≡ Printed x → x ≡ hundredthsOf l
-  printed-hundredths e = sym (ap hundredthsOf e)
-
-  pub interpolated-hundredths : l ≡ Interpolated x → x ≡ hundredthsOf l
-  interpolated-hundredths e = sym (ap hundredthsOf e)
-
-  pub limit-hundredths : l ≡ Limit x → x ≡ hundredthsOf l
-  limit-hundredths e = sym (ap hundredthsOf e)
 
 -- an answer that is a scenario
 module _ (a : LikelyAnswer) (s : LikelyScenario) (e : a ≡ answer.Is s) where
@@ -58,5 +45,3 @@ module _ (a : LikelyAnswer) (r : Refusal) (e : a ≡ answer.Refused r) where
   pub refused-hundredths : (before : Float) → before ≡ hundredthsAfter a before
   unfolding hundredthsAfter
   refused-hundredths before = sym (ap (λ x. hundredthsAfter x before) e)
-
-pub ruleset ends = (printed-hundredths, interpolated-hundredths, limit-hundredths)

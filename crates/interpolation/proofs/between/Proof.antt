@@ -1,6 +1,6 @@
 -- `interpolation::between` meets its contract. Assumes nothing.
 use borrow.Author.Needs.{needs}
-use Rattle.interpolation.proofs.Ends.{ends}
+use Rattle.interpolation.proofs.Ends.{between-limit, between-line}
 use Rattle.interpolation.proofs.between.Statement.{statement}
 use Rattle.interpolation.proofs.between.Tie as tie
 
@@ -8,7 +8,7 @@ distance-float-requires : tie.Need-distance-float-requires
 distance-float-requires c κs = search needs
 
 returns : tie.Need-returns
-returns c = search (ends, needs)
+returns c = search (between-limit, needs)
 
 row-of-requires : tie.Need-row-of-requires
 row-of-requires c κs = search needs
@@ -23,7 +23,7 @@ interpolate-requires : tie.Need-interpolate-requires
 interpolate-requires c κs = search needs
 
 returns-2 : tie.Need-returns-2
-returns-2 c = search (ends, needs)
+returns-2 c = search (between-line, needs)
 
 pub between-spec : {M : Type 1} → statement M
 between-spec =

@@ -1,6 +1,6 @@
 -- `interpolation::read` meets its contract. Assumes nothing.
 use borrow.Author.Needs.{needs}
-use Rattle.interpolation.proofs.Ends.{ends}
+use Rattle.interpolation.proofs.Ends.{read-above, read-first, read-printed, read-between}
 use Rattle.interpolation.proofs.read.Statement.{statement}
 use Rattle.interpolation.proofs.read.Tie as tie
 
@@ -20,7 +20,7 @@ above-last-requires : tie.Need-above-last-requires
 above-last-requires c κs = search needs
 
 returns : tie.Need-returns
-returns c = search (ends, needs)
+returns c = search (read-above, needs)
 
 shared-slice-read-entry : tie.Need-shared-slice-read-entry
 shared-slice-read-entry c = search needs
@@ -29,7 +29,7 @@ entry-requires : tie.Need-entry-requires
 entry-requires c κs = search needs
 
 returns-2 : tie.Need-returns-2
-returns-2 c = search (ends, needs)
+returns-2 c = search (read-first, needs)
 
 mul-if3 : tie.Need-mul-if3
 mul-if3 c = search needs
@@ -47,7 +47,7 @@ entry-requires-2 : tie.Need-entry-requires-2
 entry-requires-2 c κs = search needs
 
 returns-3 : tie.Need-returns-3
-returns-3 c = search (ends, needs)
+returns-3 c = search (read-printed, needs)
 
 sub-below : tie.Need-sub-below
 sub-below c = search needs
@@ -80,7 +80,7 @@ between-requires : tie.Need-between-requires
 between-requires c κs = search needs
 
 returns-4 : tie.Need-returns-4
-returns-4 c = search (ends, needs)
+returns-4 c = search (read-between, needs)
 
 pub read-spec : {M : Type 1} → statement M
 read-spec =

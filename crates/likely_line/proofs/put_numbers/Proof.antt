@@ -1,7 +1,7 @@
 -- `likely_line::put_numbers` meets its contract. Assumes nothing.
 use borrow.Author.Needs.{needs}
 use Rattle.float_text.specs.UpLaws.{number-not-nan}
-use Rattle.likely_line.proofs.Ends.{ends}
+use Rattle.likely_line.proofs.Ends.{numbers-text}
 use Rattle.likely_line.proofs.put_numbers.Statement.{statement}
 use Rattle.likely_line.proofs.put_numbers.Tie as tie
 
@@ -21,7 +21,7 @@ same-length : tie.Need-same-length
 same-length c = search needs
 
 returns : tie.Need-returns
-returns c = search (ends, needs)
+returns c = search (numbers-text, needs)
 
 pub put-numbers-spec : {M : Type 1} → statement M
 put-numbers-spec =

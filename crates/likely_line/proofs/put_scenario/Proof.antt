@@ -1,6 +1,6 @@
 -- `likely_line::put_scenario` meets its contract. Assumes nothing.
 use borrow.Author.Needs.{needs}
-use Rattle.likely_line.proofs.Ends.{ends}
+use Rattle.likely_line.proofs.Ends.{scenario-line}
 use Rattle.likely_line.proofs.put_scenario.Statement.{statement}
 use Rattle.likely_line.proofs.put_scenario.Tie as tie
 
@@ -17,7 +17,7 @@ same-length : tie.Need-same-length
 same-length c = search needs
 
 returns : tie.Need-returns
-returns c = search (ends, needs)
+returns c = search (scenario-line, needs)
 
 pub put-scenario-spec : {M : Type 1} → statement M
 put-scenario-spec =

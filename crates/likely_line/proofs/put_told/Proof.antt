@@ -1,6 +1,6 @@
 -- `likely_line::put_told` meets its contract. Assumes nothing.
 use borrow.Author.Needs.{needs}
-use Rattle.likely_line.proofs.Ends.{ends}
+use Rattle.likely_line.proofs.Ends.{told-text}
 use Rattle.likely_line.proofs.put_told.Statement.{statement}
 use Rattle.likely_line.proofs.put_told.Tie as tie
 
@@ -14,7 +14,7 @@ same-length : tie.Need-same-length
 same-length c = search needs
 
 returns : tie.Need-returns
-returns c = search (ends, needs)
+returns c = search (told-text, needs)
 
 pub put-told-spec : {M : Type 1} → statement M
 put-told-spec = tie.close (tie.spec put-text-requires put-numbers-requires same-length returns)

@@ -1,6 +1,6 @@
 -- `likely_listing::list` meets its contract. Assumes nothing.
 use borrow.Author.Needs.{needs}
-use Rattle.likely_listing.proofs.Ends.{ends}
+use Rattle.likely_listing.proofs.Ends.{long-text, short-text}
 use Rattle.likely_listing.proofs.list.Statement.{statement}
 use Rattle.likely_listing.proofs.list.Tie as tie
 
@@ -8,7 +8,7 @@ put-too-long-requires : tie.Need-put-too-long-requires
 put-too-long-requires c κs = search needs
 
 returns : tie.Need-returns
-returns c = search (ends, needs)
+returns c = search (long-text, needs)
 
 question-of-requires : tie.Need-question-of-requires
 question-of-requires c κs = search needs
@@ -17,7 +17,7 @@ put-question-requires : tie.Need-put-question-requires
 put-question-requires c κs = search needs
 
 returns-2 : tie.Need-returns-2
-returns-2 c = search (ends, needs)
+returns-2 c = search (short-text, needs)
 
 pub list-spec : {M : Type 1} → statement M
 list-spec =

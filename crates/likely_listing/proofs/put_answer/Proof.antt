@@ -1,6 +1,6 @@
 -- `likely_listing::put_answer` meets its contract. Assumes nothing.
 use borrow.Author.Needs.{needs}
-use Rattle.likely_listing.proofs.Ends.{ends}
+use Rattle.likely_listing.proofs.Ends.{scenario-carries, scenario-line, refused-line}
 use Rattle.likely_listing.proofs.put_answer.Statement.{statement}
 use Rattle.likely_listing.proofs.put_answer.Tie as tie
 
@@ -8,7 +8,7 @@ enum-known-answer : tie.Need-enum-known-answer
 enum-known-answer c = search needs
 
 put-scenario-requires : tie.Need-put-scenario-requires
-put-scenario-requires c κs = search (ends, needs)
+put-scenario-requires c κs = search (scenario-carries, needs)
 
 enum-known-answer-2 : tie.Need-enum-known-answer-2
 enum-known-answer-2 c = search needs
@@ -23,13 +23,13 @@ same-length : tie.Need-same-length
 same-length c = search needs
 
 returns : tie.Need-returns
-returns c = search (ends, needs)
+returns c = search (scenario-line, needs)
 
 same-length-2 : tie.Need-same-length-2
 same-length-2 c = search needs
 
 returns-2 : tie.Need-returns-2
-returns-2 c = search (ends, needs)
+returns-2 c = search (refused-line, needs)
 
 pub put-answer-spec : {M : Type 1} → statement M
 put-answer-spec =

@@ -1,6 +1,6 @@
 -- `likely_listing::put_question` meets its contract. Assumes nothing.
 use borrow.Author.Needs.{needs}
-use Rattle.likely_listing.proofs.Ends.{ends}
+use Rattle.likely_listing.proofs.Ends.{answer-carries, asked-line, malformed-line}
 use Rattle.likely_listing.proofs.put_question.Statement.{statement}
 use Rattle.likely_listing.proofs.put_question.Tie as tie
 
@@ -17,7 +17,7 @@ likely-of-requires : tie.Need-likely-of-requires
 likely-of-requires c κs = search needs
 
 put-answer-requires : tie.Need-put-answer-requires
-put-answer-requires c κs = search (ends, needs)
+put-answer-requires c κs = search (answer-carries, needs)
 
 enum-told : tie.Need-enum-told
 enum-told c = search needs
@@ -32,13 +32,13 @@ same-length : tie.Need-same-length
 same-length c = search needs
 
 returns : tie.Need-returns
-returns c = search (ends, needs)
+returns c = search (asked-line, needs)
 
 same-length-2 : tie.Need-same-length-2
 same-length-2 c = search needs
 
 returns-2 : tie.Need-returns-2
-returns-2 c = search (ends, needs)
+returns-2 c = search (malformed-line, needs)
 
 pub put-question-spec : {M : Type 1} → statement M
 put-question-spec =

@@ -1,7 +1,7 @@
 -- `likely_scenario::likely_table` meets its contract. Assumes nothing.
 use native.Mathlib.Omega.{arith}
 use borrow.Author.Needs.{needs}
-use Rattle.likely_scenario.proofs.Ends.{within, ends}
+use Rattle.likely_scenario.proofs.Ends.{within, table-is}
 use Rattle.likely_scenario.proofs.likely_table.Statement.{statement}
 use Rattle.likely_scenario.proofs.likely_table.Tie as tie
 
@@ -15,7 +15,7 @@ add-result : tie.Need-add-result
 add-result c = omega (arith, within _ _ _ _ _ _ (c .table .ensures))
 
 returns : tie.Need-returns
-returns c = search (ends, needs)
+returns c = search (table-is, needs)
 
 pub likely-table-spec : {M : Type 1} → statement M
 likely-table-spec =

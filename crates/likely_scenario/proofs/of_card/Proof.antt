@@ -1,6 +1,6 @@
 -- `likely_scenario::of_card` meets its contract. Assumes nothing.
 use borrow.Author.Needs.{needs}
-use Rattle.likely_scenario.proofs.Ends.{ends}
+use Rattle.likely_scenario.proofs.Ends.{shaped-toxic, shaped-flammable, shaped-refused}
 use Rattle.likely_scenario.proofs.of_card.Statement.{statement}
 use Rattle.likely_scenario.proofs.of_card.Tie as tie
 
@@ -26,13 +26,13 @@ enum-known-shape-2 : tie.Need-enum-known-shape-2
 enum-known-shape-2 c = search needs
 
 returns : tie.Need-returns
-returns c = search (ends, needs)
+returns c = search (shaped-toxic, needs)
 
 returns-2 : tie.Need-returns-2
-returns-2 c = search (ends, needs)
+returns-2 c = search (shaped-flammable, needs)
 
 returns-3 : tie.Need-returns-3
-returns-3 c = search (ends, needs)
+returns-3 c = search (shaped-refused, needs)
 
 pub of-card-spec : {M : Type 1} → statement M
 of-card-spec =

@@ -1,6 +1,6 @@
 -- `likely_scenario::planned_likely` meets its contract. Assumes nothing.
 use borrow.Author.Needs.{needs}
-use Rattle.likely_scenario.proofs.Ends.{ends}
+use Rattle.likely_scenario.proofs.Ends.{planned-none, planned-some}
 use Rattle.likely_scenario.proofs.planned_likely.Statement.{statement}
 use Rattle.likely_scenario.proofs.planned_likely.Tie as tie
 
@@ -14,7 +14,7 @@ enum-told : tie.Need-enum-told
 enum-told c = search needs
 
 returns : tie.Need-returns
-returns c = search (ends, needs)
+returns c = search (planned-none, needs)
 
 likely-table-requires : tie.Need-likely-table-requires
 likely-table-requires c κs = search needs
@@ -26,7 +26,7 @@ tell-requires : tie.Need-tell-requires
 tell-requires c κs = search needs
 
 returns-2 : tie.Need-returns-2
-returns-2 c = search (ends, needs)
+returns-2 c = search (planned-some, needs)
 
 pub planned-likely-spec : {M : Type 1} → statement M
 planned-likely-spec =
