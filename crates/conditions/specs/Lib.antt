@@ -9,8 +9,4 @@ pub mod Cards
 pub mod Claim
 pub mod Tables
 pub mod Exactly
-pub mod Lines
-pub mod LinesClaim
-pub mod LinesExactly
-pub mod LinesPlain
 pub mod Led

@@ -26,13 +26,13 @@ use Rattle.comma.specs.declared.Converted.the-variants as converted
 use Rattle.comma.specs.Line.{lineOf}
 use Rattle.comma.specs.Text.{Cards, cards, bad, then, cardsFrom, cardsIn, linesOf, badRoom, sizeOf, readAs, readingOf}
 use Rattle.write_lines.specs.Writing.{strictText, answerAs, writingOf}
 use Rattle.conditions.specs.Conditions.{Condition, condition, only, conditionsAt}
 use Rattle.conditions.specs.First.{passed, refused, pick, firstOf, after, after-passed, first-append}
-use Rattle.conditions.specs.Lines.{malformed, badLine, allFormed, noRoomToRead, noRoomToWrite, roomAt, linesAt, writingAt}
+use Rattle.line_conditions.specs.Lines.{malformed, badLine, allFormed, noRoomToRead, noRoomToWrite, roomAt, linesAt, writingAt}
 use Rattle.conditions.specs.Claim.{ExactlyBy}
 use Rattle.conditions.specs.Tables.{Passes, Refuses, exactly-by}
-use Rattle.conditions.specs.LinesClaim.{ReadExactly, WrittenExactly}
+use Rattle.line_conditions.specs.LinesClaim.{ReadExactly, WrittenExactly}
 use Rattle.conditions.specs.Exactly.{Told as RegisterTold, told as register-told}
 
 -- ---- what either call answers, in terms of its table
 

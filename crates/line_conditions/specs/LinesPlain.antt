@@ -22,12 +22,12 @@ use Rattle.comma.specs.declared.Line.the-variants as line
 use Rattle.comma.specs.declared.Converted.the-variants as converted
 use Rattle.comma.specs.Line.{lineOf}
 use Rattle.comma.specs.Text.{linesOf, badRoom, readingOf}
 use Rattle.conditions.specs.Conditions.{Condition, condition, only, ofRegister, ofCard, conditionsAt}
 use Rattle.conditions.specs.First.{Names}
-use Rattle.conditions.specs.Lines.{malformed, badLine, allFormed, noRoomToRead, roomAt, linesAt, writingAt}
+use Rattle.line_conditions.specs.Lines.{malformed, badLine, allFormed, noRoomToRead, roomAt, linesAt, writingAt}
 use Rattle.conditions.specs.Claim.{Holds, First, numberIn}
-use Rattle.conditions.specs.LinesClaim.{BadLine, NamesFirst, ComesWhenBad, FoundLast, NeverFour}
-use Rattle.conditions.specs.LinesExactly.{ends, bad-here, bad-behind, none-bad, not-formed, read-exactly, written-exactly}
+use Rattle.line_conditions.specs.LinesClaim.{BadLine, NamesFirst, ComesWhenBad, FoundLast, NeverFour}
+use Rattle.line_conditions.specs.LinesExactly.{ends, bad-here, bad-behind, none-bad, not-formed, read-exactly, written-exactly}
 
 -- ---- the tests, and what they say
 

@@ -13,9 +13,9 @@ use Rattle.comma.specs.declared.Converted.the-variants as converted
 use Rattle.comma.specs.Line.{lineOf}
 use Rattle.comma.specs.Text.{linesOf, readingOf}
 use Rattle.write_lines.specs.Writing.{writingOf}
 use Rattle.conditions.specs.Conditions.{only, ofRegister, ofCard, conditionsAt}
-use Rattle.conditions.specs.Lines.{roomAt, linesAt, writingAt}
+use Rattle.line_conditions.specs.Lines.{roomAt, linesAt, writingAt}
 use Rattle.conditions.specs.Claim.{ExactlyBy, numberIn}
 
 -- The reader gives 12 or 13 exactly when its condition is the first that holds, and else tells how many bytes it wrote.
 abbrev pub ReadExactly : Type 0

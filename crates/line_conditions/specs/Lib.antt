@@ -1,0 +1,4 @@
+pub mod Lines
+pub mod LinesClaim
+pub mod LinesExactly
+pub mod LinesPlain
