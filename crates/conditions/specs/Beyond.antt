@@ -1,6 +1,6 @@
 -- Condition 11 is what a table does not answer.
 -- Assumes nothing.
-use Prim.Native.Nat.{ℕ, suc, _+_, _-_, _*_, _/_, _≤_, _<_}
+use Prim.Native.Nat.{ℕ, suc, _+_, _-_, _/_, _≤_, _<_}
 use native.Mathlib.Nat.{le-refl}
 use native.Mathlib.Omega.{arith}
 use mathlib.Core.Path.{_≡_, _∙_, refl, sym, ap, subst}
@@ -22,7 +22,7 @@ use Rattle.dispersion.specs.Tables.{Table, ranges, grid, lines, unprinted, tabl
 use Rattle.rules.specs.Cuts.{cuts, cutsFrom, climbs, climbsFrom, uppers}
 use Rattle.rules.specs.Closest.{closest-by-cuts}
 use Rattle.dispersion.specs.Laws.{inOrder, in-order}
-use Rattle.rules.specs.Laws.{never-past}
+use Rattle.rules.specs.Laws.{length-thousandths, never-past}
 use Rattle.blast.specs.Printed13.{quantities, table13}
 use Rattle.blast.specs.Blast.{casOf, rowIn, rowOf, entryAt, isFlammable, blastReading}
 use Rattle.blast.specs.Laws.{entry-in, entry-out}
@@ -78,10 +78,6 @@ past-last x [] e h = refl
 past-last x (a ∷ rest) e h =
     let z : length rest ≡ suc (length rest) - 1 = omega arith in
     closest-by-cuts 1 x (a ∷ rest) (le-refl 1) e ∙ (past-cuts x a rest e (subst (λ n. n < x) (last-is a rest) h) ∙ z)
-
-pub length-thousandths : (rates : List ℕ) → length (thousandths rates) ≡ length rates
-unfolding thousandths
-length-thousandths rates = length-map rates (λ r. 1000 * r)
 
 -- a table of rows
 row-beyond : (rates entries : List ℕ) (rate : ℕ) → climbs (thousandths rates) ≡ true → both (ltb (lastOf (thousandths rates)) rate) (not (eqb (inUse entries (length rates - 1)) mileLimit)) ≡ isBeyond (byRow rates entries rate)

@@ -2,10 +2,10 @@
 -- for a c above 0.
 -- Assumes nothing.
 use Prim.Native.Nat.{ℕ, _*_, _/_, _^_, _≤_, _<_, zero-le}
-use native.Mathlib.Nat.{lt-of-not-le, not-le-of-lt, zero-mul, le-of-eq, le-of-lt, div-lt-iff-lt-mul}
+use native.Mathlib.Nat.{lt-of-not-le, not-le-of-lt, zero-mul, div-lt-iff-lt-mul}
 use native.Mathlib.Omega.{arith}
 use mathlib.Core.Path.{_≡_, refl, sym, _∙_}
-use mathlib.Core.Bool.{Bool, true, false, _&&_, _||_, true≢false}
+use mathlib.Core.Bool.{Bool, true, false, true≢false}
 use lib.Dec.{T, ltb, eqb, eqb→eq}
 use lib.IntN.{ℤ}
 use lib.Ieee.{Float, nan, inf, fin, binary64, up, down, lt, le, toUnsigned, ofInt}
@@ -14,8 +14,9 @@ use lib.Ieee.Exact.{HasValue}
 use lib.Ieee.Order.{transfer}
 use lib.Ieee.Back.{round-whole}
 use lib.Ieee.Nearest.{div-same}
-use borrow.Author.Tests.{lt-ltb, le-ltb, ltb-true, ltb-false, eqb-true}
+use borrow.Author.Tests.{lt-ltb, le-ltb, ltb-true, ltb-false}
 use Rattle.interpolation.specs.Interpolation.{floatOf}
+use Rattle.line_laws.specs.Floats.{worth-of, of-le}
 
 -- a whole number up to 2 ^ 53 is its float's value
 pub float-value : (n : ℕ) → n ≤ 2 ^ 53 → HasValue (floatOf n) false n 1
@@ -39,14 +40,6 @@ same-test p q r s holds fails = go (ltb p q) refl
     go true e = e ∙ sym (lt-ltb r s (holds (ltb-true p q e)))
     go false e = e ∙ sym (le-ltb r s (fails (ltb-false p q e)))
 
-at-most : (p q : ℕ) → T (ltb p q || (eqb p q && true)) → p ≤ q
-at-most p q = go (ltb p q) (eqb p q) (ltb-true p q) (eqb-true p q)
-  where
-    go : (t u : Bool) → (t ≡ true → p < q) → (u ≡ true → p ≡ q) → T (t || (u && true)) → p ≤ q
-    go true u less same h = le-of-lt (less refl)
-    go false true less same h = le-of-eq (same refl)
-    go false false less same h = absurd h
-
 module _ (x y : Float) (a c b d : ℕ) (C : 0 < c) (D : 0 < d) (v : HasValue x false a c) (w : HasValue y false b d) where
   by-values : (P : Float → Float → Type 0)
       → ((m : ℕ) (e : ℤ) → m * up e * c ≡ a * down e → (n : ℕ) (g : ℤ) → n * up g * d ≡ b * down g → P (fin false m e) (fin false n g))
@@ -65,14 +58,7 @@ module _ (x y : Float) (a c b d : ℕ) (C : 0 < c) (D : 0 < d) (v : HasValue x f
           (transfer b a d c (n * up g) (m * up e) (down g) (down e) (down-pos g) (down-pos e) (sym j) (sym i))
 
   pub le-values : T (le x y) → a * d ≤ b * c
-  unfolding le
-  le-values = by-values (λ z u. T (le z u) → a * d ≤ b * c) both
-    where
-      both : (m : ℕ) (e : ℤ) → m * up e * c ≡ a * down e → (n : ℕ) (g : ℤ) → n * up g * d ≡ b * down g
-          → T (le (fin false m e) (fin false n g)) → a * d ≤ b * c
-      both m e i n g j h =
-          transfer a b c d (m * up e) (n * up g) (down e) (down g) (down-pos e) (down-pos g) (sym i) (sym j)
-          (at-most (m * up e * down g) (n * up g * down e) h)
+  le-values h = of-le (worth-of x a c C v) (worth-of y b d D w) h
 
 -- ---- the whole part
 

@@ -2,16 +2,13 @@
 -- definition says. `search (law, needs)` puts them to use.
 -- Assumes nothing.
 use Prim.Native.Nat.{ℕ, zero, suc, _-_, _≤_, _<_}
-use native.Mathlib.Nat.{not-suc-le-zero}
 use native.Mathlib.Omega.{arith}
 use mathlib.Core.Path.{_≡_, _∙_, refl, ap, sym, subst}
 use mathlib.Core.List.{List}
-use mathlib.Core.Bool.{true, false}
 use lib.Ieee.{Float}
 use lib.ListN.{length, getD}
 use borrow.Author.Tests.{eq-eqb, ne-eqb, lt-ltb, le-ltb}
 use Rattle.search.specs.Rising.{firstAtLeast}
-use Rattle.rules.specs.Rules.{mileLimit}
 use Rattle.interpolation.specs.declared.Row.{Row}
 use Rattle.interpolation.specs.declared.Likely.{Likely}
 use Rattle.interpolation.specs.declared.Likely.the-variants.{Printed, Interpolated, Limit}

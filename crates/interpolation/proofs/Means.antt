@@ -1,16 +1,17 @@
 -- A reading of the code's arrays is the reading of the printed table: over any arrays that hold what is computed from it.
 -- Assumes nothing.
-use Prim.Native.Nat.{ℕ, zero, suc, _*_, _-_, _<_}
+use Prim.Native.Nat.{ℕ, zero, suc, _-_, _<_}
 use native.Mathlib.Omega.{arith}
 use mathlib.Core.Path.{Path, _≡_, refl, ap, _∙_}
 use mathlib.Core.List.{List}
 use mathlib.Core.Bool.{Bool, true, false}
 use lib.Dec.{ltb, eqb}
-use lib.ListN.{length, getD, length-map}
+use lib.ListN.{length, getD}
 use borrow.Author.Tests.{ltb-true}
 use Rattle.search.specs.Rising.{firstAtLeast}
 use Rattle.rules.specs.Rules.{inUse, thousandths}
 use Rattle.rules.specs.Carried.{running, in-use-at}
+use Rattle.rules.specs.Laws.{length-thousandths}
 use Rattle.interpolation.specs.declared.Likely.{Likely}
 use Rattle.interpolation.specs.declared.LikelyReading.{LikelyReading}
 use Rattle.interpolation.specs.declared.LikelyReading.the-variants.{Is}
@@ -44,9 +45,9 @@ module _ (rates : List ℕ) (f g : ℕ → ℕ) (rate : ℕ) (same : (i : ℕ) �
 pub likely-means : (rates entries points column : List ℕ) → points ≡ thousandths rates → 0 < length rates
     → ((i : ℕ) → i < length rates → getD column i 0 ≡ inUse entries i)
     → (rate : ℕ) → likelyAt points (λ i. getD column i 0) rate ≡ likelyByRow rates entries rate
-unfolding likelyByRow thousandths
+unfolding likelyByRow
 likely-means rates entries points column p some same rate =
-    let long : length (thousandths rates) ≡ length rates = length-map rates (λ n. 1000 * n) in
+    let long : length (thousandths rates) ≡ length rates = length-thousandths rates in
     ap (λ xs. likelyAt xs (λ i. getD column i 0) rate) p
     ∙ entries-same (thousandths rates) (λ i. getD column i 0) (inUse entries) rate (λ i h. same i (omega (arith, long, h))) (omega (arith, long, some))
 

@@ -21,7 +21,7 @@ use Rattle.exhibits.specs.declared.Toxic.the-variants.{OfGas, OfLiquid, OfSolut
 use Rattle.exhibits.specs.Lines.{endpointOf}
 use Rattle.rules.specs.Rules.{inUse, closestColumn, fromColumn, thousandths, lastOf, mileLimit, byRange}
 use Rattle.rules.specs.Cuts.{climbs, climbsFrom, uppers}
-use Rattle.rules.specs.Laws.{joined}
+use Rattle.rules.specs.Laws.{length-thousandths, joined}
 use Rattle.dispersion.specs.declared.Ground.{Ground}
 use Rattle.dispersion.specs.Tables.{Table, ranges, grid, lines, unprinted, rateOf, entryOf, readIn}
 use Rattle.dispersion.specs.Laws.{inOrder}
@@ -45,7 +45,7 @@ use Rattle.interpolation.specs.Interpolation as rows
 use Rattle.line_laws.specs.Rows.{place-printed, place-past}
 use Rattle.likely_tables.specs.LikelyTables.{likelyTables, rangeRead, likelyIn, likelyReading}
 use Rattle.conditions.specs.Conditions.{aboveLast, lastInUse, beyondTable}
-use Rattle.conditions.specs.Beyond.{isBeyond, length-thousandths, endless, table-beyond}
+use Rattle.conditions.specs.Beyond.{isBeyond, endless, table-beyond}
 
 -- what a table does not answer
 abbrev pub isUnanswered : LikelyReading → Bool

@@ -19,7 +19,7 @@ use Rattle.rules.specs.Laws.{column-by-cuts}
 use Rattle.rules.specs.Carried.{running, in-use-at}
 use Rattle.interpolation.specs.Interpolation.{likelyAt, likelyByRow}
 use Rattle.interpolation.proofs.Means.{likely-means}
-use Rattle.likely_dense.specs.PrintedDense.{rates18, endpoints18, table18, table19, table20, table21}
+use Rattle.likely_dense.specs.PrintedDense.{rates18, endpoints18}
 use Rattle.likely_dense.specs.Columns.{denseTables, countedFrom, columnsInUse, denseColumns}
 
 -- the closest column by its cut points

@@ -26,7 +26,7 @@ use Rattle.likely_scenario.specs.LikelyScenario.{likelyOf}
 use Rattle.line_laws.specs.Numbers.{Carries}
 use Rattle.likely_laws.specs.Numbers.{AnswerCarries, answer-number}
 use Rattle.likely_line.specs.LikelyLine.{scenarioLine}
-use Rattle.likely_listing.specs.LikelyListing.{answerLine, questionLine, unlessTooLong, likelyListing}
+use Rattle.likely_listing.specs.LikelyListing.{answerLine, questionLine, likelyListing}
 
 -- a card's bytes fill a buffer of 24
 pub card-whole : (b after : List ℕ) (f : Fields) → length b ≡ 24 → after ≡ sets b 0 (cardBytes f) → after ≡ cardBytes f

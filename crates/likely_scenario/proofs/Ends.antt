@@ -36,7 +36,7 @@ use Rattle.interpolation.specs.declared.LikelyReading.the-variants as reading
 use Rattle.likely_tables.specs.LikelyTables.{likelyReading}
 use Rattle.likely_scenario.specs.declared.LikelyAnswer.{LikelyAnswer}
 use Rattle.likely_scenario.specs.declared.LikelyAnswer.the-variants as answer
-use Rattle.likely_scenario.specs.LikelyScenario.{badRate, likelyTable, told, plannedLikely, meantLikely, shapedLikely, cardLikely, unlessRefused, likelyOf}
+use Rattle.likely_scenario.specs.LikelyScenario.{badRate, likelyTable, told, plannedLikely, meantLikely, shapedLikely, cardLikely, likelyOf}
 
 -- the supplied rate
 pub rate-zero : (n : ℕ) → n ≡ 0 → true ≡ badRate n

@@ -25,7 +25,6 @@ use Rattle.meaning.specs.Reading.{substanceOf, toxicMeaning}
 use Rattle.interpolation.specs.declared.LikelyReading.{LikelyReading}
 use Rattle.interpolation.specs.declared.LikelyReading.the-variants as reading
 use Rattle.likely_tables.specs.LikelyTables.{likelyReading}
-use Rattle.likely_scenario.specs.declared.LikelyScenario.{LikelyScenario}
 use Rattle.likely_scenario.specs.declared.LikelyAnswer.{LikelyAnswer}
 use Rattle.likely_scenario.specs.declared.LikelyAnswer.the-variants as answer
 

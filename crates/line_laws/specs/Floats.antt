@@ -28,7 +28,7 @@ pub data Worth : Float → ℕ → ℕ → Type 0 where
 pub under-pos : {x : Float} {a c : ℕ} → Worth x a c → 0 < c
 under-pos (worth C p) = C
 
-worth-of : (x : Float) (a c : ℕ) → 0 < c → HasValue x false a c → Worth x a c
+pub worth-of : (x : Float) (a c : ℕ) → 0 < c → HasValue x false a c → Worth x a c
 worth-of nan a c C v = absurd v
 worth-of (inf s) a c C v = absurd v
 worth-of (fin true m e) a c C v = absurd (true≢false (v .0))

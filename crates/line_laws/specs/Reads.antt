@@ -10,13 +10,14 @@ use mathlib.Core.List.{List}
 use mathlib.Core.Bool.{Bool, true, false}
 use lib.Dec.{T, leb, eqb}
 use lib.Ieee.{Float, le}
-use lib.ListN.{length, getD, length-map, List·getD-map}
+use lib.ListN.{length, getD, List·getD-map}
 use borrow.Author.Tests.{lt-ltb, le-ltb, eq-eqb, ne-eqb}
 use Rattle.search.specs.Rising.{firstAtLeast}
 use Rattle.search.specs.Laws.{clash, first-unique}
 use Rattle.search.specs.Places.{every}
 use Rattle.rules.specs.Rules.{mileLimit, inUse, thousandths}
 use Rattle.rules.specs.Cuts.{climbs}
+use Rattle.rules.specs.Laws.{length-thousandths}
 use Rattle.interpolation.specs.declared.Likely.{Likely}
 use Rattle.interpolation.specs.declared.Likely.the-variants.{Interpolated, Limit}
 use Rattle.interpolation.specs.declared.LikelyReading.the-variants.{Is}
@@ -94,16 +95,12 @@ thousandth : (rates : List ℕ) (k : ℕ) → getD (thousandths rates) k 0 ≡ 1
 unfolding thousandths
 thousandth rates k = List·getD-map (λ rate. 1000 * rate) rates k 0
 
-as-long : (rates : List ℕ) → length (thousandths rates) ≡ length rates
-unfolding thousandths
-as-long rates = length-map rates (λ rate. 1000 * rate)
-
 module _ (rates entries : List ℕ) (climb : climbs (thousandths rates) ≡ true) where
   -- "At a printed rate the answer is the printed entry exactly"
   pub at-printed : (k : ℕ) → k < length rates → likelyByRow rates entries (1000 * getD rates k 0) ≡ Is (entryRead (inUse entries k))
   unfolding likelyByRow
   at-printed k h =
-      found-printed (thousandths rates) (inUse entries) (1000 * getD rates k 0) k climb (omega (arith, as-long rates)) (thousandth rates k)
+      found-printed (thousandths rates) (inUse entries) (1000 * getD rates k 0) k climb (omega (arith, length-thousandths rates)) (thousandth rates k)
 
   -- strictly between two rows
   pub between-rows : (k rate : ℕ) → suc k < length rates → 1000 * getD rates k 0 < rate → rate < 1000 * getD rates (suc k) 0
@@ -113,7 +110,7 @@ module _ (rates entries : List ℕ) (climb : climbs (thousandths rates) ≡ true
   between-rows k rate h l u =
       rw (← thousandth rates k, ← thousandth rates (suc k))
       (found-between (thousandths rates) (inUse entries) rate k climb
-      (omega (arith, as-long rates))
+      (omega (arith, length-thousandths rates))
       (omega (arith, thousandth rates k))
       (omega (arith, thousandth rates (suc k))))
 
@@ -121,7 +118,7 @@ module _ (rates entries : List ℕ) (climb : climbs (thousandths rates) ≡ true
   pub below-first : (rate : ℕ) → 0 < length rates → rate ≤ 1000 * getD rates 0 0 → likelyByRow rates entries rate ≡ Is (entryRead (inUse entries 0))
   unfolding likelyByRow
   below-first rate h l =
-      found-below (thousandths rates) (inUse entries) rate (omega (arith, as-long rates)) (omega (arith, thousandth rates 0))
+      found-below (thousandths rates) (inUse entries) rate (omega (arith, length-thousandths rates)) (omega (arith, thousandth rates 0))
 
   -- "above the last, the rule of 11"
   pub above-last : (rate : ℕ) → 0 < length rates → 1000 * getD rates (length rates - 1) 0 < rate
@@ -129,9 +126,9 @@ module _ (rates entries : List ℕ) (climb : climbs (thousandths rates) ≡ true
   unfolding likelyByRow
   above-last rate h l =
       found-past (thousandths rates) (inUse entries) rate
-      (place-past (thousandths rates) climb rate (omega (arith, as-long rates))
-      (rw (as-long rates) (omega (arith, thousandth rates (length rates - 1)))))
-      ∙ rw (as-long rates)
+      (place-past (thousandths rates) climb rate (omega (arith, length-thousandths rates))
+      (rw (length-thousandths rates) (omega (arith, thousandth rates (length rates - 1)))))
+      ∙ rw (length-thousandths rates)
 
   -- An entry of 25 miles "is the limit, and so is the answer at any rate between it and the entry below"
   pub limit-at : (k rate : ℕ) → suc k < length rates → 1000 * getD rates k 0 < rate → rate < 1000 * getD rates (suc k) 0

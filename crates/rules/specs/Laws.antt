@@ -178,3 +178,8 @@ range-mono table e r s d f h p q =
     (first-mono (suc (1000 * r)) (suc (1000 * s)) (scaled e (uppers table)) (suc-le-suc (mul-le-mul-left 1000 h))))
     p
     q
+
+-- a rate in thousandths stands for each row
+pub length-thousandths : (rates : List ℕ) → length (thousandths rates) ≡ length rates
+unfolding thousandths
+length-thousandths rates = length-map rates (λ rate. 1000 * rate)

@@ -1,6 +1,5 @@
 -- `likely_dense::read` meets its contract: the arrays are what is computed from the printed tables. Assumes nothing.
 use mathlib.Core.Path.{refl, _∙_}
-use native.Mathlib.Omega.{arith}
 use borrow.Author.Needs.{needs}
 use Rattle.search.specs.Flat.{flat}
 use Rattle.rules.specs.Rules.{distance, largest, fromColumn, thousandths}
