@@ -34,7 +34,7 @@ fn count_lines(text: &[u8]) -> Lines
     let mut at = 0usize;
     while at < text.len() {
         let end = line_end(text, at);
-        let line = comma::line_of(&text[at..end]);
+        let line = read_line::line_of(&text[at..end]);
         let Line::Card(_) = line else {
             return Lines::Bad(count + 1);
         };
@@ -64,7 +64,7 @@ fn put_cards(text: &[u8], count: usize, out: &mut [u8])
     while place < count {
         let start = 7 + 24 * place;
         let end = line_end(text, at);
-        let line = comma::line_of(&text[at..end]);
+        let line = read_line::line_of(&text[at..end]);
         let Line::Card(fields) = line else {
             return;
         };

@@ -1,9 +1,9 @@
--- `comma::amounts_at` meets its contract: three fields, one after the other.
+-- `read_line::amounts_at` meets its contract: three fields, one after the other.
 -- Assumes nothing.
-use Rattle.comma.proofs.Ends.{cas-bad, pounds-bad, area-bad, amounts-good}
+use Rattle.read_line.proofs.Ends.{cas-bad, pounds-bad, area-bad, amounts-good}
 use borrow.Author.Needs.{needs}
-use Rattle.comma.proofs.amounts_at.Statement.{statement}
-use Rattle.comma.proofs.amounts_at.Tie as tie
+use Rattle.read_line.proofs.amounts_at.Statement.{statement}
+use Rattle.read_line.proofs.amounts_at.Tie as tie
 
 take-field-requires : tie.Need-take-field-requires
 take-field-requires c κs = search needs

@@ -1,9 +1,9 @@
--- `comma::line_of` meets its contract: its three stages, where it is not too long.
+-- `read_line::line_of` meets its contract: its three stages, where it is not too long.
 -- Assumes nothing.
-use Rattle.comma.proofs.Ends.{too-long, codes-bad, amounts-bad, line-read}
+use Rattle.read_line.proofs.Ends.{too-long, codes-bad, amounts-bad, line-read}
 use borrow.Author.Needs.{needs}
-use Rattle.comma.proofs.line_of.Statement.{statement}
-use Rattle.comma.proofs.line_of.Tie as tie
+use Rattle.read_line.proofs.line_of.Statement.{statement}
+use Rattle.read_line.proofs.line_of.Tie as tie
 
 returns : tie.Need-returns
 returns c = search (too-long, needs)
