@@ -16,11 +16,11 @@ pub enum Question {
 fn asked_in(line: &[u8]) -> Question
     ensures { λ r. ⌜ r ≡ askedIn (now (line .entry)) ⌝ }
 {
-    let first = read_line::take_field(line, 0, Form::Decimal(numerals::FOUR_BYTES));
+    let first = read_field::take_field(line, 0, Form::Decimal(numerals::FOUR_BYTES));
     let Taken::Is(rate, at1) = first else {
         return Question::Malformed;
     };
-    let second = read_line::take_field(line, at1, Form::Decimal(numerals::FOUR_BYTES));
+    let second = read_field::take_field(line, at1, Form::Decimal(numerals::FOUR_BYTES));
     let Taken::Is(minutes, at2) = second else {
         return Question::Malformed;
     };

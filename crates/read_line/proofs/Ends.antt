@@ -1,21 +1,20 @@
 -- One law for each answer of a stage.
 -- Assumes nothing.
-use Prim.Native.Nat.{ℕ, _+_, _-_, _^_, _≤_, _<_}
+use Prim.Native.Nat.{ℕ, _+_, _^_, _≤_, _<_}
 use native.Mathlib.Omega.{arith}
 use native.Mathlib.Nat.{lt-of-le-of-lt}
-use mathlib.Core.Path.{_≡_, refl, sym, ap, subst, _∙_}
+use mathlib.Core.Path.{_≡_, sym, ap, subst, _∙_}
 use mathlib.Core.List.{List}
 use mathlib.Core.Logic.{⊎-elim}
 use lib.Dec.{T, ltb, ltb→lt}
-use lib.ListN.{length, take, drop}
+use lib.ListN.{length, drop}
 use borrow.Author.Tests.{lt-ltb, le-ltb}
 use mir.Syntax.{Width}
 use mir.Val.{Fits, bits}
 use Rattle.search.specs.Laws.{clash, lt-or-ge}
 use Rattle.pieces.specs.Pieces.{before}
-use Rattle.pieces.specs.Laws.{before-take}
 use Rattle.numerals.specs.declared.Form.{Form}
-use Rattle.numerals.specs.declared.Form.the-variants.{Decimal, Cas, Temperature}
+use Rattle.numerals.specs.declared.Form.the-variants.{Decimal, Cas}
 use Rattle.numerals.specs.declared.Number.{Number}
 use Rattle.numerals.specs.declared.Number.the-variants as number
 use Rattle.numerals.specs.Numerals.{valueIn, mostOf, Within}
@@ -33,31 +32,9 @@ use Rattle.comma.specs.declared.Line.the-variants as line
 use Rattle.comma.specs.Line.{fieldsIn, tenthsForm, lastsIn, amountsIn, codesIn, longestLine, lineOf}
 use Rattle.comma.specs.Stages.{placed, endAt, takenAt, CodesTold, AmountsTold}
 use Rattle.comma.specs.StageLaws.{taken-ended, taken-unended, taken-is, taken-not, remark-is, remark-not}
-use Rattle.comma.specs.StrictLaws.{tenths-cases, tenths-most}
+use Rattle.comma.specs.StrictLaws.{tenths-most}
 
 -- ---- one field
-
-module _ (form : Form) (text : List ℕ) (at end : ℕ) (e : end ≡ at + length (before 44 (drop at text))) where
-  pub field-unended : length text ≤ end → taken.Malformed ≡ takenAt form text at
-  field-unended h = sym (taken-unended text at form (omega (arith, e)))
-
-  module _ (h : end < length text) (v : Number) (q : v ≡ valueIn form (take (end - at) (drop at text))) where
-    -- what the code hands on is the field
-    valued : takenAt form text at ≡ placed v (end + 1)
-    valued =
-        let size : end - at ≡ length (before 44 (drop at text)) = omega (arith, e) in
-        let field : take (end - at) (drop at text) ≡ before 44 (drop at text) =
-        ap (λ (n : ℕ). take n (drop at text)) size ∙ before-take 44 (drop at text) in
-        taken-ended text at form (omega (arith, e))
-        ∙ ap (λ (n : ℕ). placed (valueIn form (before 44 (drop at text))) (n + 1)) (sym e)
-        ∙ ap (λ (s : List ℕ). placed (valueIn form s) (end + 1)) (sym field)
-        ∙ ap (λ (x : Number). placed x (end + 1)) (sym q)
-
-    pub field-bad : v ≡ number.Malformed → taken.Malformed ≡ takenAt form text at
-    field-bad p = sym (valued ∙ ap (λ (x : Number). placed x (end + 1)) p)
-
-    pub field-good : (n : ℕ) → v ≡ number.Is n → taken.Is n (end + 1) ≡ takenAt form text at
-    field-good n p = sym (valued ∙ ap (λ (x : Number). placed x (end + 1)) p)
 
 -- a number that was taken is at most what its form may hold
 taken-most : (form : Form) (text : List ℕ) (at : ℕ) {n behind : ℕ} → takenAt form text at ≡ taken.Is n behind → n ≤ mostOf form
@@ -139,12 +116,6 @@ module _ (text : List ℕ) (at : ℕ) (x : Taken) (e : x ≡ takenAt Cas text at
           ∙ taken-is text at₂ (Decimal 4_294_967_295) (sym g ∙ r) _
 
 -- ---- the form of the ninth field
-
-pub concentration : (state : ℕ) → state ≡ 5 → Decimal 65_535 ≡ tenthsForm state
-concentration state e = tenths-cases (λ form text. Decimal 65_535 ≡ form) state 0 (λ h. refl) (λ n. absurd (n e))
-
-pub temperature : (state : ℕ) → (state ≡ 5 → ⊥) → Temperature ≡ tenthsForm state
-temperature state n = tenths-cases (λ form text. Temperature ≡ form) state 0 (λ e. absurd (n e)) (λ h. refl)
 
 -- in every state two bytes hold it
 pub tenths-small : (state : ℕ) (tenths : Form) → tenths ≡ tenthsForm state → T (ltb (mostOf tenths) (2 ^ 16))

@@ -7,52 +7,34 @@ use comma::Line;
 use comma::Taken;
 use fields::Fields;
 use numerals::Form;
-use numerals::Number;
 ghost use mathlib.Core.Path.{_≡_};
 ghost use lib.ListN.{drop};
-ghost use Rattle.comma.specs.Line.{fieldsIn, tenthsForm, lastsIn, lineOf};
-ghost use Rattle.comma.specs.Stages.{takenAt, CodesTold, AmountsTold};
+ghost use Rattle.comma.specs.Line.{fieldsIn, lastsIn, lineOf};
+ghost use Rattle.comma.specs.Stages.{CodesTold, AmountsTold};
 
 // "A line is at most 200 bytes"
 const LONGEST: usize = 200;
 
-// What fits one byte, and two.
+// What fits one byte.
 const ONE_BYTE: u32 = 255;
-
-const TWO_BYTES: u32 = 65_535;
-
-// The number of the field that starts at a place. A comma has to end it, since a number is never the last field.
-pub fn take_field(line: &[u8], at: usize, form: Form) -> Taken
-    ensures { λ r. ⌜ r ≡ takenAt form (now (line .entry)) at ⌝ }
-{
-    let end = pieces::end_of(line, at, b',');
-    if line.len() <= end {
-        return Taken::Malformed;
-    }
-    let number = numerals::value_in(form, &line[at..end]);
-    let Number::Is(n) = number else {
-        return Taken::Malformed;
-    };
-    Taken::Is(n, end + 1)
-}
 
 // Kind, state, ground and containment, from the start of the line.
 fn codes_of(line: &[u8]) -> CodesRead
     ensures { λ r. ⌜ CodesTold (now (line .entry)) r ⌝ }
 {
-    let first = take_field(line, 0, Form::Decimal(ONE_BYTE));
+    let first = read_field::take_field(line, 0, Form::Decimal(ONE_BYTE));
     let Taken::Is(kind, at1) = first else {
         return CodesRead::Malformed;
     };
-    let second = take_field(line, at1, Form::Decimal(ONE_BYTE));
+    let second = read_field::take_field(line, at1, Form::Decimal(ONE_BYTE));
     let Taken::Is(state, at2) = second else {
         return CodesRead::Malformed;
     };
-    let third = take_field(line, at2, Form::Decimal(ONE_BYTE));
+    let third = read_field::take_field(line, at2, Form::Decimal(ONE_BYTE));
     let Taken::Is(ground, at3) = third else {
         return CodesRead::Malformed;
     };
-    let fourth = take_field(line, at3, Form::Decimal(ONE_BYTE));
+    let fourth = read_field::take_field(line, at3, Form::Decimal(ONE_BYTE));
     let Taken::Is(containment, at4) = fourth else {
         return CodesRead::Malformed;
     };
@@ -69,45 +51,35 @@ fn codes_of(line: &[u8]) -> CodesRead
 fn amounts_at(line: &[u8], at: usize) -> AmountsRead
     ensures { λ r. ⌜ AmountsTold (now (line .entry)) at r ⌝ }
 {
-    let first = take_field(line, at, Form::Cas);
+    let first = read_field::take_field(line, at, Form::Cas);
     let Taken::Is(cas, at1) = first else {
         return AmountsRead::Malformed;
     };
-    let second = take_field(line, at1, Form::Decimal(numerals::FOUR_BYTES));
+    let second = read_field::take_field(line, at1, Form::Decimal(numerals::FOUR_BYTES));
     let Taken::Is(pounds, at2) = second else {
         return AmountsRead::Malformed;
     };
-    let third = take_field(line, at2, Form::Decimal(numerals::FOUR_BYTES));
+    let third = read_field::take_field(line, at2, Form::Decimal(numerals::FOUR_BYTES));
     let Taken::Is(area, at3) = third else {
         return AmountsRead::Malformed;
     };
     AmountsRead::Are(Amounts { cas, pounds, area }, at3)
 }
 
-// What the ninth field is to hold: in state 5, a water solution's, a concentration without a sign, else a temperature.
-fn tenths_form(state: u8) -> Form
-    ensures { λ r. ⌜ r ≡ tenthsForm state ⌝ }
-{
-    if state == 5 {
-        return Form::Decimal(TWO_BYTES);
-    }
-    Form::Temperature
-}
-
 // Wall, temperature or concentration, and card number, and the remark, which is the last field and is dropped.
 fn lasts_at(line: &[u8], at: usize, codes: Codes, amounts: Amounts) -> Line
     ensures { λ r. ⌜ r ≡ lastsIn codes amounts (fieldsIn (drop at (now (line .entry)))) ⌝ }
 {
-    let first = take_field(line, at, Form::Decimal(TWO_BYTES));
+    let first = read_field::take_field(line, at, Form::Decimal(read_field::TWO_BYTES));
     let Taken::Is(wall, at1) = first else {
         return Line::Malformed;
     };
-    let tenths = tenths_form(codes.state);
-    let second = take_field(line, at1, tenths);
+    let tenths = read_field::tenths_form(codes.state);
+    let second = read_field::take_field(line, at1, tenths);
     let Taken::Is(heat, at2) = second else {
         return Line::Malformed;
     };
-    let third = take_field(line, at2, Form::Decimal(numerals::FOUR_BYTES));
+    let third = read_field::take_field(line, at2, Form::Decimal(numerals::FOUR_BYTES));
     let Taken::Is(number, at3) = third else {
         return Line::Malformed;
     };

@@ -1,9 +1,9 @@
--- `read_line::tenths_form` meets its contract: by the number of the state.
+-- `read_field::tenths_form` meets its contract: by the number of the state.
 -- Assumes nothing.
-use Rattle.read_line.proofs.Ends.{concentration, temperature}
+use Rattle.read_field.proofs.Ends.{concentration, temperature}
 use borrow.Author.Needs.{needs}
-use Rattle.read_line.proofs.tenths_form.Statement.{statement}
-use Rattle.read_line.proofs.tenths_form.Tie as tie
+use Rattle.read_field.proofs.tenths_form.Statement.{statement}
+use Rattle.read_field.proofs.tenths_form.Tie as tie
 
 returns : tie.Need-returns
 returns c = search (concentration, needs)

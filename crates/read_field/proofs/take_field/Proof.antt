@@ -1,9 +1,9 @@
--- `read_line::take_field` meets its contract: the bytes up to the next comma, where there is one.
+-- `read_field::take_field` meets its contract: the bytes up to the next comma, where there is one.
 -- Assumes nothing.
-use Rattle.read_line.proofs.Ends.{field-unended, field-bad, field-good}
+use Rattle.read_field.proofs.Ends.{field-unended, field-bad, field-good}
 use borrow.Author.Needs.{needs}
-use Rattle.read_line.proofs.take_field.Statement.{statement}
-use Rattle.read_line.proofs.take_field.Tie as tie
+use Rattle.read_field.proofs.take_field.Statement.{statement}
+use Rattle.read_field.proofs.take_field.Tie as tie
 
 end-of-requires : tie.Need-end-of-requires
 end-of-requires c κs = search needs
