@@ -60,9 +60,9 @@ pub fn toxic_meaning(f: Fields, standing: Standing) -> Meaning
     if !is_listed(entry) {
         return Meaning::Refused(Refusal::Unlisted);
     }
-    let found = ranges::bounds_of(f, entry);
+    let found = bounds::bounds_of(f, entry);
     let Bounds::Within(tenths) = found else {
-        return Meaning::Refused(ranges::bounds_refusal(found));
+        return Meaning::Refused(bounds::bounds_refusal(found));
     };
     let state = standing.state;
     let ground = standing.ground;

@@ -1,10 +1,10 @@
-// The ranges of a card's numbers in the order of their checks: its pounds, area, wall, and temperature or concentration.
+// The ranges of a card's numbers, each by itself: its pounds, area, wall, and temperature or concentration.
 use exhibits::Toxic;
 use fields::Fields;
 use refusals::Refusal;
 use scenario::Tenths;
 ghost use mathlib.Core.Path.{_≡_};
-ghost use Rattle.ranges.specs.Ranges.{badPounds, badArea, badHeat, signed, tenthsOf, badTenths, isOutOfRange, boundsOf, boundsRefusal, BoundsLimits};
+ghost use Rattle.ranges.specs.Ranges.{badPounds, badArea, badHeat, signed, tenthsOf, badTenths, isOutOfRange};
 
 // The temperature or the concentration of a card whose numbers are all in range.
 pub enum Bounds {
@@ -23,7 +23,7 @@ pub fn bad_pounds(pounds: u32) -> bool
     }
 }
 
-fn bad_area(containment: u8, area: u32) -> bool
+pub fn bad_area(containment: u8, area: u32) -> bool
     ensures { λ r. ⌜ r ≡ badArea containment area ⌝ }
 {
     if containment == 0 {
@@ -54,7 +54,7 @@ fn to_signed(heat: u16) -> i16
 }
 
 // What bytes 18 and 19 are: in state 5 a concentration, else a temperature.
-fn tenths_of(f: Fields) -> Tenths
+pub fn tenths_of(f: Fields) -> Tenths
     ensures { λ r. ⌜ r ≡ tenthsOf f ⌝ }
 {
     if f.state != 5 {
@@ -63,7 +63,7 @@ fn tenths_of(f: Fields) -> Tenths
     Tenths::Concentration(f.heat)
 }
 
-fn bad_tenths(tenths: Tenths) -> bool
+pub fn bad_tenths(tenths: Tenths) -> bool
     ensures { λ r. ⌜ r ≡ badTenths tenths ⌝ }
 {
     match tenths {
@@ -72,7 +72,7 @@ fn bad_tenths(tenths: Tenths) -> bool
     }
 }
 
-fn is_out_of_range(entry: Toxic) -> bool
+pub fn is_out_of_range(entry: Toxic) -> bool
     ensures { λ r. ⌜ r ≡ isOutOfRange entry ⌝ }
 {
     match entry {
@@ -81,38 +81,5 @@ fn is_out_of_range(entry: Toxic) -> bool
         Toxic::OfSolution(_) => false,
         Toxic::OutOfRange => true,
         Toxic::NotListed => false,
-    }
-}
-
-// The ranges of a toxic card's numbers, in turn, and its temperature or concentration.
-pub fn bounds_of(f: Fields, entry: Toxic) -> Bounds
-    ensures { λ r. ⌜ r ≡ boundsOf entry f ⌝ }
-    ensures { λ r. ⌜ BoundsLimits f r ⌝ }
-{
-    if bad_pounds(f.pounds) {
-        return Bounds::Refused(Refusal::Quantity);
-    }
-    if bad_area(f.containment, f.area) {
-        return Bounds::Refused(Refusal::Area);
-    }
-    if 10_000 < f.wall {
-        return Bounds::Refused(Refusal::Wall);
-    }
-    let tenths = tenths_of(f);
-    if bad_tenths(tenths) {
-        return Bounds::Refused(Refusal::Temperature);
-    }
-    if is_out_of_range(entry) {
-        return Bounds::Refused(Refusal::Concentration);
-    }
-    Bounds::Within(tenths)
-}
-
-pub fn bounds_refusal(found: Bounds) -> Refusal
-    ensures { λ r. ⌜ r ≡ boundsRefusal found ⌝ }
-{
-    match found {
-        Bounds::Within(_) => Refusal::Concentration,
-        Bounds::Refused(refusal) => refusal,
     }
 }

@@ -1,8 +1,8 @@
--- `ranges::bounds_refusal` meets its contract: the refusal is handed on as it is. Assumes nothing.
+-- `bounds::bounds_refusal` meets its contract: the refusal is handed on as it is. Assumes nothing.
 use borrow.Author.Needs.{needs}
-use Rattle.ranges.proofs.Ends.{refusal-given}
-use Rattle.ranges.proofs.bounds_refusal.Statement.{statement}
-use Rattle.ranges.proofs.bounds_refusal.Tie as tie
+use Rattle.bounds.proofs.Ends.{refusal-given}
+use Rattle.bounds.proofs.bounds_refusal.Statement.{statement}
+use Rattle.bounds.proofs.bounds_refusal.Tie as tie
 
 enum-told : tie.Need-enum-told
 enum-told c = search needs
