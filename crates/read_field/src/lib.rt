@@ -17,7 +17,7 @@ pub fn take_field(line: &[u8], at: usize, form: Form) -> Taken
     if line.len() <= end {
         return Taken::Malformed;
     }
-    let number = numerals::value_in(form, &line[at..end]);
+    let number = read_number::value_in(form, &line[at..end]);
     let Number::Is(n) = number else {
         return Taken::Malformed;
     };

@@ -1,9 +1,9 @@
--- `numerals::groups_in` meets its contract: one group behind the other.
+-- `read_number::groups_in` meets its contract: one group behind the other.
 -- Assumes nothing.
-use Rattle.numerals.proofs.Ends.{part-length, first-bad, second-bad, third-read}
+use Rattle.read_number.proofs.Ends.{part-length, first-bad, second-bad, third-read}
 use borrow.Author.Needs.{needs}
-use Rattle.numerals.proofs.groups_in.Statement.{statement}
-use Rattle.numerals.proofs.groups_in.Tie as tie
+use Rattle.read_number.proofs.groups_in.Statement.{statement}
+use Rattle.read_number.proofs.groups_in.Tie as tie
 
 sub-first-end : tie.Need-sub-first-end
 sub-first-end c = search needs

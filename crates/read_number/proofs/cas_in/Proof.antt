@@ -1,9 +1,9 @@
--- `numerals::cas_in` meets its contract: too short, a hyphen missing, or the three groups.
+-- `read_number::cas_in` meets its contract: too short, a hyphen missing, or the three groups.
 -- Assumes nothing.
-use Rattle.numerals.proofs.Ends.{cas-short, cas-first, cas-second, cas-read}
+use Rattle.read_number.proofs.Ends.{cas-short, cas-first, cas-second, cas-read}
 use borrow.Author.Needs.{needs}
-use Rattle.numerals.proofs.cas_in.Statement.{statement}
-use Rattle.numerals.proofs.cas_in.Tie as tie
+use Rattle.read_number.proofs.cas_in.Statement.{statement}
+use Rattle.read_number.proofs.cas_in.Tie as tie
 
 returns : tie.Need-returns
 returns c = search (cas-short, needs)

@@ -1,9 +1,9 @@
--- `numerals::value_in` meets its contract: the spaces go, then each form is read in its own way.
+-- `read_number::value_in` meets its contract: the spaces go, then each form is read in its own way.
 -- Assumes nothing.
-use Rattle.numerals.proofs.Ends.{value-decimal, value-cas, value-heat}
+use Rattle.read_number.proofs.Ends.{value-decimal, value-cas, value-heat}
 use borrow.Author.Needs.{needs}
-use Rattle.numerals.proofs.value_in.Statement.{statement}
-use Rattle.numerals.proofs.value_in.Tie as tie
+use Rattle.read_number.proofs.value_in.Statement.{statement}
+use Rattle.read_number.proofs.value_in.Tie as tie
 
 trimmed-requires : tie.Need-trimmed-requires
 trimmed-requires c κs = search needs
