@@ -15,9 +15,10 @@ use Rattle.refusals.specs.declared.Refusal.the-variants as refusal
 use Rattle.comma.specs.declared.Converted.the-variants as converted
 use Rattle.comma.specs.Text.{Cards, cards, bad, cardsIn, bytesOf, sizeOf, headerBytes, registerOf, badRoom, readAs, readingOf, filledWith, readInto}
 use Rattle.comma.specs.CardLaws.{header-length, register-length}
-use Rattle.read_lines.specs.declared.Lines.{Lines}
-use Rattle.read_lines.specs.declared.Lines.the-variants as lines
-use Rattle.read_lines.specs.Walk.{countFrom, badLine, laidFrom}
+use Rattle.count_lines.specs.declared.Lines.{Lines}
+use Rattle.count_lines.specs.declared.Lines.the-variants as lines
+use Rattle.count_lines.specs.Count.{countFrom, badLine}
+use Rattle.read_lines.specs.Walk.{laidFrom}
 
 -- the two ways of 13
 module _ (xs : List Fields) (room : ℕ) where

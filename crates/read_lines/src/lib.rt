@@ -2,57 +2,14 @@
 // that is not well formed and to count them, and once to write the cards.
 use comma::Converted;
 use comma::Line;
+use count_lines::Lines;
 use refusals::Refusal;
 ghost use mathlib.Core.Path.{_≡_};
-ghost use Prim.Native.Nat.{_+_, _*_, _≤_, _<_};
-ghost use lib.ListN.{length, drop};
-ghost use Rattle.pieces.specs.Pieces.{before};
+ghost use Prim.Native.Nat.{_+_, _*_, _≤_};
+ghost use lib.ListN.{length};
 ghost use Rattle.comma.specs.Text.{cardsIn, readingOf, readInto};
-ghost use Rattle.read_lines.specs.Walk.{countFrom, badLine, laidFrom};
-
-// How many lines a text has, or the number of the first that is not well formed, counted from 1.
-pub enum Lines {
-    Good(usize),
-    Bad(usize),
-}
-
-// Where the line that starts at a place ends: at its line feed, or at the end of the text.
-fn line_end(text: &[u8], at: usize) -> usize
-    requires { ⌜ at < length (now text) ⌝ }
-    ensures { λ r. ⌜ r ≡ at + length (before 10 (drop at (now (text .entry)))) ⌝ }
-    ensures { λ r. ⌜ at ≤ r ⌝ }
-    ensures { λ r. ⌜ r ≤ length (now (text .entry)) ⌝ }
-{
-    pieces::end_of(text, at, b'\n')
-}
-
-// The first walk: every line is looked at, whatever the buffer is, so that a bad line is found before anything else.
-fn count_lines(text: &[u8]) -> Lines
-    ensures { λ r. ⌜ r ≡ countFrom 0 (cardsIn (now (text .entry))) ⌝ }
-{
-    let mut count = 0usize;
-    let mut at = 0usize;
-    while at < text.len() {
-        let end = line_end(text, at);
-        let line = read_line::line_of(&text[at..end]);
-        let Line::Card(_) = line else {
-            return Lines::Bad(count + 1);
-        };
-        count += 1;
-        at = end + 1;
-    }
-    Lines::Good(count)
-}
-
-// The line of an answer that has one.
-fn bad_line(lines: Lines) -> usize
-    ensures { λ r. ⌜ r ≡ badLine lines ⌝ }
-{
-    match lines {
-        Lines::Good(_) => 0,
-        Lines::Bad(line) => line,
-    }
-}
+ghost use Rattle.count_lines.specs.Count.{countFrom};
+ghost use Rattle.read_lines.specs.Walk.{laidFrom};
 
 // The second walk: the cards, one behind the other. It stops at a line that has none, which the first walk rules out.
 fn put_cards(text: &[u8], count: usize, out: &mut [u8])
@@ -63,7 +20,7 @@ fn put_cards(text: &[u8], count: usize, out: &mut [u8])
     let mut at = 0usize;
     while place < count {
         let start = 7 + 24 * place;
-        let end = line_end(text, at);
+        let end = count_lines::line_end(text, at);
         let line = read_line::line_of(&text[at..end]);
         let Line::Card(fields) = line else {
             return;
@@ -80,9 +37,9 @@ pub fn read(text: &[u8], out: &mut [u8]) -> Converted
     ensures { λ r. ⌜ r ≡ readingOf (now (text .entry)) (length (now (out .entry))) ⌝ }
     ensures { λ r. ⌜ now (out .exit) ≡ readInto (now (text .entry)) (now (out .entry)) ⌝ }
 {
-    let lines = count_lines(text);
+    let lines = count_lines::count_lines(text);
     let Lines::Good(count) = lines else {
-        return Converted::Refused(Refusal::Line, bad_line(lines));
+        return Converted::Refused(Refusal::Line, count_lines::bad_line(lines));
     };
     if header::MOST_CARDS < count {
         return Converted::Refused(Refusal::Room, 0);

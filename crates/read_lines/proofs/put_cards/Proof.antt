@@ -4,9 +4,11 @@ use mathlib.Core.Path.{_≡_}
 use Prim.Native.Nat.{_+_, _-_, _*_}
 use lib.ListN.{length}
 use Rattle.comma.specs.Text.{cardsIn}
-use Rattle.read_lines.specs.declared.Lines.the-variants as Lines
-use Rattle.read_lines.specs.Walk.{countFrom, laidFrom}
-use Rattle.read_lines.specs.Laws.{rest, lay-start, lay-counted, lay-there, lay-next, lay-turn, lay-bad, lay-end}
+use Rattle.count_lines.specs.declared.Lines.the-variants as Lines
+use Rattle.count_lines.specs.Count.{countFrom}
+use Rattle.count_lines.specs.Laws.{rest}
+use Rattle.read_lines.specs.Walk.{laidFrom}
+use Rattle.read_lines.specs.Laws.{lay-start, lay-counted, lay-there, lay-next, lay-turn, lay-bad, lay-end}
 use borrow.Author.Needs.{needs}
 use Rattle.read_lines.proofs.put_cards.Statement.{statement}
 use Rattle.read_lines.proofs.put_cards.Tie as tie

@@ -1,9 +1,9 @@
--- `read_lines::line_end` meets its contract: a line ends within the text.
+-- `count_lines::line_end` meets its contract: a line ends within the text.
 -- Assumes nothing.
-use Rattle.read_lines.specs.Laws.{line-within}
+use Rattle.count_lines.specs.Laws.{line-within}
 use borrow.Author.Needs.{needs}
-use Rattle.read_lines.proofs.line_end.Statement.{statement}
-use Rattle.read_lines.proofs.line_end.Tie as tie
+use Rattle.count_lines.proofs.line_end.Statement.{statement}
+use Rattle.count_lines.proofs.line_end.Tie as tie
 
 end-of-requires : tie.Need-end-of-requires
 end-of-requires c κs = search needs

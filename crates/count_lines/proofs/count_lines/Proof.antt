@@ -1,14 +1,14 @@
--- `read_lines::count_lines` meets its contract: the lines passed, with what those that are left come to, are what the text comes to; the measure is what is left of the text.
+-- `count_lines::count_lines` meets its contract: the lines passed, with what those that are left come to, are what the text comes to; the measure is what is left of the text.
 -- Assumes nothing.
 use mathlib.Core.Path.{_≡_}
 use Prim.Native.Nat.{_+_, _-_, _≤_}
 use lib.ListN.{length}
 use Rattle.comma.specs.Text.{cardsIn}
-use Rattle.read_lines.specs.Walk.{countFrom}
-use Rattle.read_lines.specs.Laws.{rest, count-start, count-turn, count-bad, count-end}
+use Rattle.count_lines.specs.Count.{countFrom}
+use Rattle.count_lines.specs.Laws.{rest, count-start, count-turn, count-bad, count-end}
 use borrow.Author.Needs.{needs}
-use Rattle.read_lines.proofs.count_lines.Statement.{statement}
-use Rattle.read_lines.proofs.count_lines.Tie as tie
+use Rattle.count_lines.proofs.count_lines.Statement.{statement}
+use Rattle.count_lines.proofs.count_lines.Tie as tie
 
 abbrev Inv-loop : tie.InvT-loop
 Inv-loop text count₀ at₀ count at =
