@@ -422,7 +422,7 @@ def printed_import(crate, names):
 
 
 def forms_import(names):
-    """The forms of Tables 1 to 12 stand in the crate below the tables, with the rules."""
+    """The forms of Tables 1 to 12 and 14 to 25 stand in the crate below the tables, with the rules."""
     return f"use Rattle.rules.specs.Printed.{{{', '.join(names)}}}"
 
 

@@ -1,4 +1,5 @@
--- The forms in which Reference Tables 1 to 12 are printed. The tables themselves stand in the crate dispersion.
+-- The forms in which Reference Tables 1 to 12 are printed, and 14 to 25, each like the table thirteen below it. The tables themselves
+-- stand in the crates `neutral`, `dense` and `dispersion`, and `likely_neutral`, `likely_dense` and `likely_tables`.
 -- Assumes nothing.
 use Prim.Native.Nat.{ℕ}
 
