@@ -3,6 +3,12 @@
 use rings_second::reference::{Found, Refused};
 use rings_second::samples::Card;
 
+/// The lines of a file of cases, each its first word and what it is said of. What stands behind a `#` is not read.
+pub fn worded(cases: &'static str) -> impl Iterator<Item = (&'static str, &'static str)> {
+    let lines = cases.lines().map(|line| line.split('#').next().unwrap_or(line).trim_end());
+    lines.filter(|line| !line.is_empty()).map(|line| line.split_once(' ').expect("a word and what it is said of"))
+}
+
 /// A card of ten numbers, the CAS number without hyphens.
 pub fn card(line: &str) -> Card {
     let fields: Vec<i64> = line.split(' ').map(|field| field.parse().expect("a number")).collect();

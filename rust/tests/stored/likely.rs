@@ -1,6 +1,6 @@
 //! The likely scenarios of `tests/likely.txt`; the README beside it tells its form.
 
-use crate::forms::{card, name_of, refusal};
+use crate::forms::{card, name_of, refusal, worded};
 use crate::implementations::IMPLEMENTATIONS;
 use rings_second::reference::{Likely, Refused, CARD_LEN};
 
@@ -45,14 +45,12 @@ struct Query {
 impl Case {
     fn all() -> Vec<Case> {
         let mut cases: Vec<Case> = Vec::new();
-        let lines = CASES.lines().map(|line| line.split('#').next().unwrap_or(line).trim_end());
-        for line in lines.filter(|line| !line.is_empty()) {
-            let (word, rest) = line.split_once(' ').expect("a word and what it is said of");
+        for (word, rest) in worded(CASES) {
             match (word, cases.last_mut()) {
                 ("case", _) => cases.push(Case { label: rest, card: [0; CARD_LEN], queries: Vec::new() }),
                 ("card", Some(case)) => case.card = card(rest).bytes(),
                 ("at", Some(case)) => case.queries.push(Query::read(rest)),
-                _ => panic!("{line}"),
+                _ => panic!("{word} {rest}"),
             }
         }
         cases

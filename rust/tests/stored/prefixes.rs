@@ -1,6 +1,6 @@
 //! The leaders of `tests/prefixes.txt`; the README beside it tells its form.
 
-use crate::forms::{card, hex_bytes, number, refusal};
+use crate::forms::{card, hex_bytes, number, refusal, worded};
 use crate::implementations::IMPLEMENTATIONS;
 use rings_second::reference::{Accepted, Farthest, Refused};
 use rings_second::samples::{register, Card};
@@ -39,13 +39,11 @@ struct Case {
 impl Case {
     fn all() -> Vec<Case> {
         let mut cases: Vec<Case> = Vec::new();
-        let lines = CASES.lines().map(|line| line.split('#').next().unwrap_or(line).trim_end());
-        for line in lines.filter(|line| !line.is_empty()) {
-            let (word, rest) = line.split_once(' ').expect("a word and what it is said of");
+        for (word, rest) in worded(CASES) {
             match (word, cases.last_mut()) {
                 ("case", _) => cases.push(Case { label: rest, cards: Vec::new(), raw: None, expected: Vec::new() }),
                 (_, Some(case)) => case.add(word, rest),
-                _ => panic!("before the first case: {line}"),
+                _ => panic!("before the first case: {word} {rest}"),
             }
         }
         cases
