@@ -1,6 +1,7 @@
 -- The lines of a listing that are no card's, as text: lists of bytes in ASCII, as a card's line is (`lines/specs/Lines.antt`).
 -- Assumes nothing.
 use Prim.Native.Nat.{ℕ}
+use mathlib.Core.Bool.{Bool, true, false}
 use mathlib.Core.List.{List, [], _∷_, _++_}
 use Rattle.decimal.specs.Decimal.{digits}
 use Rattle.farthest.specs.declared.Farthest.{Farthest}
@@ -20,3 +21,8 @@ refusedLine number place =
 -- "prints `too long` and nothing else"
 abbrev pub tooLong : List ℕ
 tooLong = 116 ∷ 111 ∷ 111 ∷ 32 ∷ 108 ∷ 111 ∷ 110 ∷ 103 ∷ 10 ∷ []
+
+-- what a program prints of an input that may be too long
+abbrev pub unlessLong : Bool → List ℕ → List ℕ
+unlessLong true text = tooLong
+unlessLong false text = text

@@ -25,14 +25,16 @@ floatOf n = ofInt binary64 (pos n)
 abbrev pub rowOf : ℕ → ℕ → Row
 rowOf rate distance = record { rate = floatOf rate; distance = floatOf distance }
 
--- "d0 + (d1 - d0) × ((r - r0) / (r1 - r0)), rates in thousandths, in that order of operations"
+-- "The result is a 64-bit float in hundredths of a mile: d0 + (d1 - d0) × ((r - r0) / (r1 - r0)), rates in thousandths, in that order of
+-- operations"
 abbrev pub lineBetween : Row → Row → Float → Float
 lineBetween low high r =
     add binary64 (low .distance)
     (mul binary64 (sub binary64 (high .distance) (low .distance))
     (div binary64 (sub binary64 r (low .rate)) (sub binary64 (high .rate) (low .rate))))
 
--- "An entry in use of 25 miles is the limit"; any other that is read as it stands "counts as printed"
+-- "An entry in use of 25 miles is the limit"; "A range or first entry under 25 miles counts as printed", and so does an entry at a printed
+-- rate
 unfoldable pub entryRead : ℕ → Likely
 entryRead entry = elim (eqb entry mileLimit) [ true ↦ Limit (floatOf entry) | false ↦ Printed (floatOf entry) ]
 

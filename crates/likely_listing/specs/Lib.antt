@@ -1,1 +1,2 @@
 pub mod LikelyListing
+pub mod Shown

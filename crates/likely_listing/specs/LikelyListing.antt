@@ -1,13 +1,12 @@
 -- What the program for likely scenarios prints, as text: one line.
 -- Assumes nothing.
 use Prim.Native.Nat.{ℕ}
-use mathlib.Core.Bool.{Bool, true, false}
 use mathlib.Core.List.{List}
 use lib.Dec.{ltb}
 use lib.ListN.{length}
 use Rattle.refusals.specs.declared.Refusal.the-variants as refusal
 use Rattle.refusals.specs.Numbers.{numberOf}
-use Rattle.closing.specs.Closing.{refusedLine, tooLong}
+use Rattle.closing.specs.Closing.{refusedLine, unlessLong}
 use Rattle.comma.specs.Text.{cardBytes}
 use Rattle.question.specs.declared.Question.{Question}
 use Rattle.question.specs.declared.Question.the-variants as question
@@ -30,10 +29,6 @@ questionLine question.Malformed = refusedLine (numberOf refusal.Line) 1
 abbrev pub longestText : ℕ
 longestText = 1_000
 
--- a text that is too long to be looked at, as the listing of a register has it
-abbrev pub unlessTooLong : Bool → List ℕ → List ℕ
-unlessTooLong true text = tooLong
-unlessTooLong false text = text
-
+-- a text that is longer is too long to be looked at
 unfoldable pub likelyListing : List ℕ → List ℕ
-likelyListing text = unlessTooLong (ltb longestText (length text)) (questionLine (questionIn text))
+likelyListing text = unlessLong (ltb longestText (length text)) (questionLine (questionIn text))

@@ -93,10 +93,10 @@ module _ (bytes : List ℕ) (rate minutes : ℕ) (f : Fields) (e : f ≡ fieldsO
   here : shapedLikely s f rate minutes ≡ cardLikely bytes rate minutes
   here = ap (λ x. shapedLikely x f rate minutes) q ∙ ap (λ g. shapedLikely (shapeOf g) g rate minutes) e
 
-  pub shaped-toxic : (standing : Standing) (m : Meaning) (r : LikelyAnswer) → s ≡ shape.Toxic standing → m ≡ toxicMeaning (substanceOf f) f standing
-      → r ≡ meantLikely m rate minutes → r ≡ cardLikely bytes rate minutes
-  shaped-toxic standing m r t n h =
-      h ∙ ap (λ x. meantLikely x rate minutes) n ∙ sym (ap (λ x. shapedLikely x f rate minutes) t) ∙ here
+  pub shaped-toxic : (standing : Standing) (m : Meaning) (supplied : ℕ) (r : LikelyAnswer) → s ≡ shape.Toxic standing → m ≡ toxicMeaning (substanceOf f) f standing
+      → supplied ≡ rate → r ≡ meantLikely m supplied minutes → r ≡ cardLikely bytes rate minutes
+  shaped-toxic standing m supplied r t n p h =
+      h ∙ ap (λ x. meantLikely m x minutes) p ∙ ap (λ x. meantLikely x rate minutes) n ∙ sym (ap (λ x. shapedLikely x f rate minutes) t) ∙ here
 
   pub shaped-flammable : s ≡ shape.Flammable → answer.Refused refusal.Form ≡ cardLikely bytes rate minutes
   shaped-flammable t = sym (ap (λ x. shapedLikely x f rate minutes) t) ∙ here

@@ -1,5 +1,5 @@
 -- A likely scenario beside the worst: the alternative distance of a toxic card, at a rate and a duration that the reader supplies, as
--- document 02 gives it in A6.
+-- document 02 gives it in A6. "These answers stand outside the ring ordering."
 -- Assumes nothing.
 use Prim.Native.Nat.{ℕ, _+_}
 use mathlib.Core.Bool.{Bool, true, false}
@@ -39,13 +39,13 @@ unfoldable pub likelyTable : ToxicCard → ℕ → ℕ
 likelyTable card minutes =
     13 + tableOf (card .cas) (card .state) (alternativePlume (card .entry)) (card .ground) (leb minutes 10)
 
--- "above the last, the rule of 11"; "The answer also says the table number."
+-- "above the last, the rule of 11". The answer has the number of its table beside the distance.
 abbrev pub told : LikelyReading → ℕ → LikelyAnswer
 told (reading.Is distance) table = answer.Is (record { table = table; distance = distance })
 told reading.Beyond table = answer.Refused refusal.Beyond
 
--- 10, "checked whole, as for the card's worst case": where that has a scenario, the endpoint is its own, and the supplied rate "is
--- taken as it is"
+-- 10, "checked as ever", which is as for the card's worst case: where that has a scenario, the endpoint is its own. Its rate counts for
+-- nothing, and the supplied one is taken as it is.
 abbrev pub plannedLikely : Planned → ToxicCard → ℕ → ℕ → LikelyAnswer
 plannedLikely (planned.Planned s) card rate minutes =
     told (likelyReading (likelyTable card minutes) (card .ground) rate (s .endpoint)) (likelyTable card minutes)

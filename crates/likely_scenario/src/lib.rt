@@ -109,7 +109,8 @@ fn of_card(card: &[u8], rate: u64, minutes: u32) -> LikelyAnswer
     match shape {
         Shape::Toxic(standing) => {
             let found = meaning::toxic_meaning(f, standing);
-            meant_likely(found, PoundsPerMinute(rate), minutes)
+            let supplied = release::supplied_rate(rate);
+            meant_likely(found, supplied, minutes)
         }
         Shape::Flammable => LikelyAnswer::Refused(Refusal::Form),
         Shape::Refused(refusal) => LikelyAnswer::Refused(refusal),

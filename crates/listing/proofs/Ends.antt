@@ -26,9 +26,9 @@ use Rattle.cards.specs.Register.{outcomeOf}
 use Rattle.cards.specs.Walked.{passed}
 use Rattle.buffer.specs.Wrote.{Wrote}
 use Rattle.buffer.specs.Laws.{joined, written-first}
-use Rattle.closing.specs.Closing.{leaderLine, refusedLine, tooLong}
+use Rattle.closing.specs.Closing.{leaderLine, refusedLine, tooLong, unlessLong}
 use Rattle.listing.specs.declared.Listed.the-variants as listed
-use Rattle.listing.specs.Listing.{longest, leaderLines, listedAfter, unlessLong, textOf, listingRoom, ifRoom, listedOf, keptIf, listedInto}
+use Rattle.listing.specs.Listing.{longest, leaderLines, listedAfter, textOf, listingRoom, ifRoom, listedOf, keptIf, listedInto}
 use Rattle.listing.specs.Laws.{IsAccepted, accepted-text, accepted-walk, accepted-header, sent-back-text}
 
 module _ {b₀ b₁ b₂ : List ℕ} {at mid end : ℕ} where

@@ -14,7 +14,7 @@ use Rattle.header.specs.declared.Header.the-variants as header
 use Rattle.header.specs.Header.{headerSize, cardSize, enough, headerOf}
 use Rattle.cards.specs.Register.{Cards, answers, sent-back, cardsOf}
 use Rattle.lines.specs.Lines.{cardLine}
-use Rattle.closing.specs.Closing.{leaderLine, refusedLine, tooLong}
+use Rattle.closing.specs.Closing.{leaderLine, refusedLine, unlessLong}
 use Rattle.listing.specs.declared.Listed.{Listed}
 use Rattle.listing.specs.declared.Listed.the-variants as listed
 
@@ -41,12 +41,8 @@ abbrev pub listedAfter : Header → List ℕ → List ℕ
 listedAfter (header.Good count) bytes = listingOf (cardsOf count bytes)
 listedAfter (header.Refused r) bytes = refusedLine (numberOf r) 0
 
--- "An input longer than the longest register that can be accepted (48,007 bytes) prints `too long` and nothing else."
-abbrev pub unlessLong : Bool → List ℕ → List ℕ
-unlessLong true text = tooLong
-unlessLong false text = text
-
--- "The listing program reads a register on standard input and prints" this
+-- "The listing program reads a register on standard input and prints" this; "An input longer than the longest register that can be
+-- accepted (48,007 bytes) prints `too long` and nothing else."
 unfoldable pub textOf : List ℕ → List ℕ
 textOf bytes = unlessLong (ltb longest (length bytes)) (listedAfter (headerOf bytes enough) bytes)
 

@@ -51,6 +51,13 @@ pub fn thousandths(rate: PoundsPerMinute) -> u64
     rate.0
 }
 
+// A rate that a reader supplies, in thousandths of a pound per minute.
+pub fn supplied_rate(thousandths: u64) -> PoundsPerMinute
+    ensures { λ r. ⌜ r .0 ≡ thousandths ⌝ }
+{
+    PoundsPerMinute(thousandths)
+}
+
 // A blast has no rate.
 pub fn no_rate() -> PoundsPerMinute
     ensures { λ r. ⌜ r .0 ≡ 0 ⌝ }

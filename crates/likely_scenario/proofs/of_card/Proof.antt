@@ -16,6 +16,9 @@ enum-known-shape c = search needs
 toxic-meaning-requires : tie.Need-toxic-meaning-requires
 toxic-meaning-requires c κs = search needs
 
+supplied-rate-requires : tie.Need-supplied-rate-requires
+supplied-rate-requires c κs = search needs
+
 meant-likely-requires : tie.Need-meant-likely-requires
 meant-likely-requires c κs = search needs
 
@@ -42,6 +45,7 @@ of-card-spec =
     shape-of-requires
     enum-known-shape
     toxic-meaning-requires
+    supplied-rate-requires
     meant-likely-requires
     enum-told
     enum-known-shape-2
