@@ -3,9 +3,10 @@
 
     python3 tools/compare_source.py GUIDANCE [EXHIBITS]
 
-GUIDANCE is the text of EPA 550-B-99-009 (source document 001); every cell of data/table01.tsv to table25.tsv is
-compared with it. EXHIBITS is the folder with b1.tsv to b4.tsv; data/'s files of the same names are compared
-with those. Exits 1 on any disagreement.
+GUIDANCE is the text of EPA 550-B-99-009 (source document 001); every cell of data/table01.tsv to table12.tsv and of
+table14.tsv to table25.tsv is compared with it. Table 13 stands in no file of data/: it was made by Equation C-1, so
+data/c1.tsv has to list its substances and give its distances. EXHIBITS is the folder with b1.tsv to b4.tsv and
+c1.tsv; data/'s files of the same names are compared with those. Exits 1 on any disagreement.
 
 It shares no code with generate.py or with what first made data/: each table is cut out of the whole text by its
 caption and its cells are found by a pattern of what a row of that table looks like. Whatever stands in tab-separated
@@ -16,6 +17,7 @@ import csv
 import re
 import sys
 from decimal import Decimal
+from fractions import Fraction
 from pathlib import Path
 
 DATA = Path(__file__).resolve().parent.parent / "data"
@@ -43,8 +45,13 @@ HEADER_START = {"neutral": ["range", "distance"], "dense": ["rate"], "chemical":
                 "flammable": ["cas", "name"]}
 
 # How many rows each table has: a row that both readings lost would show here.
-ROWS = {1: 49, 2: 49, 3: 49, 4: 49, 5: 27, 6: 27, 7: 27, 8: 27, 9: 50, 10: 50, 11: 44, 12: 44, 13: 63,
+ROWS = {1: 49, 2: 49, 3: 49, 4: 49, 5: 27, 6: 27, 7: 27, 8: 27, 9: 50, 10: 50, 11: 44, 12: 44,
         14: 49, 15: 49, 16: 49, 17: 49, 18: 27, 19: 27, 20: 27, 21: 27, 22: 42, 23: 42, 24: 44, 25: 44}
+
+# The distances of Table 13, by CAS number and quantity, that are not what Equation C-1 gives rounded to the printed digits. The
+# equation gives 0.646, 0.147, 0.252 and 0.65001 miles.
+BORDERLINE = [("74-85-1", "500,000", "0.7"), ("75-08-1", "10,000", "0.2"), ("75-08-1", "50,000", "0.2"),
+              ("1333-74-0", "200,000", "0.6")]
 
 # The lines that say what is printed below a rate: "<10" above the row of 10, so they are no rows and data/ leaves
 # them out. Left out means looked for: each has to be there once, with these cells, and no other table has one.
@@ -156,6 +163,27 @@ def compare_table(table, guidance, faults):
     return count
 
 
+def rounds_to(printed_miles, pounds, heat):
+    """Whether Equation C-1's distance rounds to the printed one: hundredths are printed below a tenth of a mile, else tenths."""
+    miles = Fraction(printed_miles)
+    half = Fraction(1, 200) if miles < Fraction(1, 10) else Fraction(1, 20)
+    cube = Fraction(4_913 * pounds * heat, 102_960)
+    return (1_609_344 * (miles - half) / 1_000) ** 3 <= cube <= (1_609_344 * (miles + half) / 1_000) ** 3
+
+
+def compare_heats(guidance, faults):
+    """Exhibit C-1 by Table 13: the same substances in the same order, and heats that give its distances."""
+    (_, _, *quantities), *rows = printed(13, guidance, faults)
+    heats = held("c1.tsv")[1:]
+    count = compare("c1.tsv by Table 13", [line[:2] for line in heats], [row[:2] for row in rows], faults)
+    off = [(row[0], quantity, miles) for row, line in zip(rows, heats) for quantity, miles in zip(quantities, row[2:])
+           if not rounds_to(miles, int(quantity.replace(",", "")), int(line[2]))]
+    if off != BORDERLINE:
+        faults.append(f"c1.tsv by Table 13: the equation does not give {off}, which should be {BORDERLINE}")
+    print(f"c1.tsv by Table 13: {len(rows)} substances, {len(rows) * len(quantities)} distances, {len(off)} of them borderline")
+    return count
+
+
 def compare_exhibit(name, folder, faults):
     ours = held(name)
     count = compare(name, ours, held(name, folder), faults)
@@ -169,9 +197,10 @@ def main(arguments):
     guidance = Path(arguments[0]).read_text(encoding="utf-8")
     faults = []
     cells = sum(compare_table(table, guidance, faults) for table in ROWS)
+    cells += compare_heats(guidance, faults)
     print(f"{cells} cells compared with the guidance")
     if len(arguments) == 2:
-        exhibits = sum(compare_exhibit(name, Path(arguments[1]), faults) for name in ("b1.tsv", "b2.tsv", "b3.tsv", "b4.tsv"))
+        exhibits = sum(compare_exhibit(name, Path(arguments[1]), faults) for name in ("b1.tsv", "b2.tsv", "b3.tsv", "b4.tsv", "c1.tsv"))
         print(f"{exhibits} cells compared with the exhibits")
     for fault in faults:
         print(f"disagreement: {fault}", file=sys.stderr)

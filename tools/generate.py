@@ -28,6 +28,7 @@ LIQUID_FACTOR_LIMIT = 1_000_000
 DENSITY_FACTOR_LIMIT = 200
 TEMPERATURE_FACTOR_LIMIT = 1_000
 PERCENT_LIMIT = 1_000
+HEAT_LIMIT = 150_000
 
 # What the code stores in CELL where Exhibit B-4 prints no factor: above every factor that it may print.
 CELL_LFB = 65534
@@ -68,7 +69,6 @@ SOLUTION_COUNT = 15
 FLAMMABLE_COUNT = 63
 DENSE_ROW_COUNT = 27
 DENSE_COLUMN_COUNT = 16
-QUANTITY_COUNT = 11
 
 PLUMES = {"Buoyant": "Neutral", "Dense": "Dense"}
 
@@ -231,6 +231,28 @@ def read_factors():
     ]
 
 
+def read_heat(text, where):
+    """A heat of combustion. Exhibit C-1 prints whole kilojoules per kilogram, without commas: there is nothing to round up."""
+    expect(re.fullmatch(r"[1-9][0-9]*", text), where, f"'{text}' is no whole number")
+    expect(int(text) <= HEAT_LIMIT, where, f"'{text}' is above the limit")
+    return int(text)
+
+
+def read_heats():
+    """The lines of Exhibit C-1."""
+    columns = ["cas", "name", "heat_of_combustion_kj_per_kg"]
+    flammables = [
+        {
+            "cas": cas_number(cells["cas"], where),
+            "name": cells["name"],
+            "heat": read_heat(cells["heat_of_combustion_kj_per_kg"], where),
+        }
+        for where, cells in read_records("c1.tsv", columns, FLAMMABLE_COUNT)
+    ]
+    expect_distinct(flammables, "data/c1.tsv")
+    return flammables
+
+
 def read_exhibits():
     gases, liquids, factors = read_gases(), read_liquids(), read_factors()
     expect_distinct(gases + liquids, "data/b1.tsv and data/b2.tsv")
@@ -307,27 +329,6 @@ def read_chemical(number):
     ]
     expect_rising([rate for rate, _, _ in lines], f"data/{table_file(number)}, rates")
     return lines
-
-
-def read_flammables():
-    name = table_file(13)
-    header, rows = read_rows(name)
-    expect(header[:2] == ["cas", "name"], f"data/{name}", "the first columns are not cas and name")
-    quantities = [scaled(cell, 0, f"data/{name}, header") for cell in header[2:]]
-    expect(len(quantities) == QUANTITY_COUNT, f"data/{name}", f"{len(quantities)} quantities")
-    expect(len(rows) == FLAMMABLE_COUNT, f"data/{name}", f"{len(rows)} rows")
-    expect_rising(quantities, f"data/{name}, header")
-    flammables = [
-        {
-            "cas": cas_number(cells[0], where),
-            "name": cells[1],
-            # Table 13 prints no marks
-            "distances": [distance_read(read_mark(cell, {}, where)) for cell in cells[2:]],
-        }
-        for where, cells in rows
-    ]
-    expect_distinct(flammables, f"data/{name}")
-    return quantities, flammables
 
 
 # ---- What the code reads of a table ----
@@ -546,14 +547,13 @@ def printed_chemical(tables):
         [LIST_IMPORT, forms_import(marks_used(marks) + ["Line", "line"])], definitions)
 
 
-def printed_13(quantities, flammables):
-    items = [(x["name"], f"flammable {x['cas']} ({antt_list(x['distances'])})") for x in flammables]
+def printed_c1(flammables):
+    items = [(x["name"], f"heat {x['cas']} {x['heat']}") for x in flammables]
     return antt_file(
-        "data/table13.tsv", "Reference Table 13 as printed. Quantities in pounds, distances in hundredths of a mile.",
-        [NAT_IMPORT, LIST_IMPORT, printed_import("blast", ["FlammableLine", "flammable"])],
-        [antt_numbers("Table 13: the quantities of its columns", "quantities", quantities),
-         antt_definition("Table 13, flammable substances, in the printed order: CAS number, the distance for each quantity",
-                         "table13", "FlammableLine", items)])
+        "data/c1.tsv", "Exhibit C-1 as printed. Heats of combustion in whole kilojoules per kilogram.",
+        [LIST_IMPORT, printed_import("blast", ["HeatLine", "heat"])],
+        [antt_definition("Exhibit C-1, flammable substances, in the printed order: CAS number, heat of combustion", "c1", "HeatLine",
+                         items)])
 
 
 # ---- Writing the code's arrays and functions ----
@@ -817,27 +817,21 @@ def likely_chemical_arrays(tables):
     return rt_file(sources_of(tables), arrays)
 
 
-def blast_tables(quantities, flammables):
-    return rt_file("data/table13.tsv", [
-        rt_array("The quantities of Table 13 in pounds.", "QUANTITY", 64, quantities),
-        rt_array(f"Table 13 in hundredths of a mile, {QUANTITY_COUNT} a substance, in the printed order: no entry is above 2.55 "
-                 "miles.", "DISTANCE", 8, flat(x["distances"] for x in flammables), QUANTITY_COUNT),
-        rt_match(f"The place of a flammable substance in Table 13, by its CAS number; {FLAMMABLE_COUNT} for one that it does not "
-                 "list.", "place_of(cas: u32) -> usize", "r ≡ placeOf cas (map casOf table13)", "cas",
-                 [(x["name"], x["cas"], place) for place, x in enumerate(flammables)], FLAMMABLE_COUNT),
-    ], ["ghost use mathlib.Core.Path.{_≡_};", "ghost use mathlib.Core.List.{map};",
-        "ghost use Rattle.search.specs.Places.{placeOf};", "ghost use Rattle.blast.specs.Printed13.{table13};",
-        "ghost use Rattle.blast.specs.Blast.{casOf};"])
+def heat_lines(flammables):
+    return rt_file("data/c1.tsv", [
+        rt_match("The heat of combustion of a flammable substance by its CAS number, in kilojoules per kilogram: Exhibit C-1, in the\n"
+                 "// printed order; 0 for a substance that it does not list.",
+                 "heat_of(cas: u32) -> u32", "r ≡ heatOf cas", "cas", [(x["name"], x["cas"], x["heat"]) for x in flammables], 0),
+    ], ["ghost use mathlib.Core.Path.{_≡_};", "ghost use Rattle.blast.specs.Blast.{heatOf};"])
 
 
-def blast_proof(flammables):
+def heat_proof(flammables):
     return arms_proof(
-        "blast", "place_of",
-        ["use mathlib.Core.Path.{refl, sym}", "use mathlib.Core.List.{map}", "use Rattle.search.specs.Arms.{arm, missed}",
-         "use Rattle.search.specs.Places.{placeOf}", "use Rattle.search.specs.PlaceLaws.{place-none}",
-         "use Rattle.blast.specs.Printed13.{table13}", "use Rattle.blast.specs.Blast.{casOf}"],
-        "placeOf table13", "(λ n. placeOf n (map casOf table13))", [x["cas"] for x in flammables],
-        "sym (place-none _ (map casOf table13) (missed _ (map casOf table13) (c .match .rest)))")
+        "blast", "heat_of",
+        ["use mathlib.Core.Path.{refl}", "use Rattle.search.specs.Arms.{arm}", "use Rattle.search.specs.Places.{lookUp}",
+         "use Rattle.blast.specs.PrintedC1.{c1}", "use Rattle.blast.specs.Blast.{heatOf}",
+         "use Rattle.blast.specs.Laws.{no-heat}"],
+        "heatOf lookUp c1", "heatOf", [x["cas"] for x in flammables], "no-heat _ (c .match .rest)")
 
 
 # ---- All together ----
@@ -853,7 +847,7 @@ def generated_files():
     likely_neutral = {number: read_neutral(number) for number in LIKELY_NEUTRAL_TABLES}
     likely_dense = {number: read_dense(number) for number in LIKELY_DENSE_TABLES}
     likely_chemical = {number: read_chemical(number) for number in LIKELY_CHEMICAL_TABLES}
-    quantities, flammables = read_flammables()
+    flammables = read_heats()
     return {
         "crates/exhibits/specs/PrintedB1.antt": printed_b1(gases),
         "crates/exhibits/specs/PrintedB2.antt": printed_b2(liquids),
@@ -876,9 +870,9 @@ def generated_files():
         "crates/likely_dense/src/tables.rt": likely_dense_columns(likely_dense),
         "crates/likely_tables/specs/PrintedChemical.antt": printed_chemical(likely_chemical),
         "crates/likely_tables/src/tables.rt": likely_chemical_arrays(likely_chemical),
-        "crates/blast/specs/Printed13.antt": printed_13(quantities, flammables),
-        "crates/blast/src/tables.rt": blast_tables(quantities, flammables),
-        "crates/blast/proofs/tables/place_of/Proof.antt": blast_proof(flammables),
+        "crates/blast/specs/PrintedC1.antt": printed_c1(flammables),
+        "crates/blast/src/tables.rt": heat_lines(flammables),
+        "crates/blast/proofs/tables/heat_of/Proof.antt": heat_proof(flammables),
     }
 
 

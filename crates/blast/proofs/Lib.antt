@@ -1,1 +1,1 @@
-mod Means
+mod Halving

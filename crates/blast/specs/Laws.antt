@@ -1,73 +1,121 @@
--- What other crates use of Table 13 instead of its text: its entries never fall along a row, so a larger quantity never
--- reads a shorter distance.
+-- What other crates use of a blast instead of its text: a fuller tank of one substance never draws the smaller ring. That the ring is the
+-- least number of metres that satisfies the inequality, and the only such number, is `exactly-one`.
 -- Assumes nothing.
-use Prim.Native.Nat.{ℕ, zero, suc, _≤_, _<_, suc-le-suc}
-use native.Mathlib.Nat.{le-of-suc-le-suc, not-suc-le-zero}
+use Prim.Native.Nat.{ℕ, zero, suc, _+_, _*_, _≤_, _<_, zero-le, suc-le-suc}
+use native.Mathlib.Nat.{le-refl, le-trans, mul-one, mul-le-mul, mul-le-mul-left, mul-le-mul-right}
 use native.Mathlib.Omega.{arith}
-use mathlib.Core.Path.{_≡_, refl, ap}
+use mathlib.Core.Path.{_≡_, refl, ap, sym, _∙_}
 use mathlib.Core.List.{List, [], _∷_, map}
-use mathlib.Core.Bool.{true}
+use mathlib.Core.Bool.{Bool, true, false}
 use mathlib.Core.Logic.{⊎-elim}
 use lib.Dec.{leb, ltb}
-use lib.ListN.{length, getD}
-use borrow.Author.Tests.{leb-true, ltb-true}
-use Rattle.units.specs.declared.Miles.{Miles}
-use Rattle.units.specs.declared.Reading.the-variants.{Distance, Beyond}
-use Rattle.search.specs.Rising.{firstAtLeast, rises}
-use Rattle.search.specs.Laws.{lt-or-ge, first-mono, rising}
-use Rattle.search.specs.PlaceLaws.{among-each, look-each}
-use Rattle.blast.specs.Printed13.{quantities, table13}
-use Rattle.blast.specs.Blast.{casOf, rowIn, isFlammable, rowOf, entryAt, blastReading}
+use borrow.Author.Tests.{leb-true, leb-false, le-leb, ltb-true}
+use Rattle.search.specs.Laws.{lt-or-ge, clash}
+use Rattle.search.specs.PlaceLaws.{among-each, look-each, look-none, look-listed}
+use Rattle.search.specs.Arms.{Missed, missed}
+use Rattle.blast.specs.PrintedC1.{c1}
+use Rattle.blast.specs.Blast.{casOf, heatIn, isFlammable, heatOf, Enough, Least, enough, firstFrom, metresOf, hundredthsOf, ringOf}
+
+-- ---- Exhibit C-1
 
 -- a CAS number that is listed has at most eight digits
 pub listed-below : (cas : ℕ) → isFlammable cas ≡ true → cas < 100_000_000
-unfolding isFlammable table13
+unfolding isFlammable c1
 listed-below cas e =
-    ltb-true cas 100_000_000 (among-each (λ c. ltb c 100_000_000) cas (map casOf table13) refl e)
+    ltb-true cas 100_000_000 (among-each (λ c. ltb c 100_000_000) cas (map casOf c1) refl e)
 
--- "its entries never fall along a row": one test over the whole table
-pub row-rises : (cas : ℕ) → rises (rowOf cas) ≡ true
-unfolding rowOf table13
-row-rises cas = look-each casOf rowIn cas rises table13 [] refl refl
+-- HC is "at most 150,000": one test over the whole exhibit
+pub heat-within : (cas : ℕ) → heatOf cas ≤ 150_000
+unfolding heatOf c1
+heat-within cas = leb-true (heatOf cas) 150_000 (look-each casOf heatIn cas (λ hc. leb hc 150_000) c1 0 refl refl)
 
--- no row has more entries than there are quantities
-pub row-within : (cas : ℕ) → length (rowOf cas) ≤ length quantities
-unfolding rowOf table13 quantities
-row-within cas =
-    leb-true (length (rowOf cas)) 11 (look-each casOf rowIn cas (λ row. leb (length row) 11) table13 [] refl refl)
+-- a number that no line has is no substance's, and has no heat
+pub no-heat : (cas : ℕ) → Missed cas (map casOf c1) → 0 ≡ heatOf cas
+unfolding heatOf
+no-heat cas m = sym (look-none casOf heatIn cas c1 0 (missed cas (map casOf c1) m))
 
--- an entry of the row is answered, and nothing else
-pub entry-in : (row : List ℕ) (i : ℕ) → i < length row → entryAt row i ≡ Distance (record { 0 = getD row i 0 })
-unfolding entryAt
-entry-in [] i h = absurd (not-suc-le-zero h)
-entry-in (d ∷ rest) zero h = refl
-entry-in (d ∷ rest) (suc i) h = entry-in rest i (le-of-suc-le-suc h)
-
-pub entry-out : (row : List ℕ) (i : ℕ) → length row ≤ i → entryAt row i ≡ Beyond
-unfolding entryAt
-entry-out [] i h = refl
-entry-out (d ∷ rest) zero h = absurd (not-suc-le-zero h)
-entry-out (d ∷ rest) (suc i) h = entry-out rest i (le-of-suc-le-suc h)
-
-entry-is : (row : List ℕ) (i : ℕ) (d : Miles) → entryAt row i ≡ Distance d → (i < length row) × (d .0 ≡ getD row i 0)
-entry-is row i d e = ⊎-elim within past (lt-or-ge i (length row))
+-- a substance has a heat exactly where it is listed
+pub listed : (cas : ℕ) → ltb 0 (heatOf cas) ≡ isFlammable cas
+unfolding heatOf isFlammable c1
+listed cas = go (isFlammable cas) refl
   where
-    within : i < length row → (i < length row) × (d .0 ≡ getD row i 0)
-    within h =
-        let inside = entry-in row i h in
-        let same : d ≡ record { 0 = getD row i 0 } = cc in
-        (h, ap (λ (m : Miles). m .0) same)
+    go : (b : Bool) → isFlammable cas ≡ b → ltb 0 (heatOf cas) ≡ b
+    go true e = look-listed casOf heatIn cas (λ hc. ltb 0 hc) c1 0 e refl
+    go false e = ap (ltb 0) (look-none casOf heatIn cas c1 0 e)
 
-    past : length row ≤ i → (i < length row) × (d .0 ≡ getD row i 0)
-    past h =
-        let outside = entry-out row i h in
-        let z : _≡_ {A = ℕ} 0 1 = cc in
-        absurd (omega arith)
+-- ---- the least number of metres
 
--- a larger quantity of the same substance never reads a shorter distance
-pub blast-mono : (cas p q : ℕ) (d e : Miles) → p ≤ q → blastReading cas p ≡ Distance d → blastReading cas q ≡ Distance e → d .0 ≤ e .0
-unfolding blastReading
-blast-mono cas p q d e h atP atQ =
-    let near = entry-is (rowOf cas) (firstAtLeast p quantities) d atP in
-    let far = entry-is (rowOf cas) (firstAtLeast q quantities) e atQ in
-    omega (arith, rising (rowOf cas) (row-rises cas) (firstAtLeast p quantities) (firstAtLeast q quantities) (first-mono p q quantities h) (far .0))
+-- the test passes at what is found, where it passes at the last number that is looked at
+first-passes : (test : ℕ → Bool) (further d : ℕ) → test (d + further) ≡ true → test (firstFrom test further d) ≡ true
+unfolding firstFrom
+first-passes test zero d e = let z : d ≡ d + 0 = omega arith in ap test z ∙ e
+first-passes test (suc further) d e =
+    let z : suc d + further ≡ d + suc further = omega arith in
+    go (test d) refl (first-passes test further (suc d) (ap test z ∙ e))
+  where
+    go : (b : Bool) → test d ≡ b → test (firstFrom test further (suc d)) ≡ true → test (elim b as (λ _. ℕ) [ true ↦ d | false ↦ firstFrom test further (suc d) ]) ≡ true
+    go true p later = p
+    go false p later = later
+
+-- and at no number before it
+first-earlier : (test : ℕ → Bool) (further d e : ℕ) → d ≤ e → e < firstFrom test further d → test e ≡ false
+unfolding firstFrom
+first-earlier test zero d e h l = absurd (omega arith)
+first-earlier test (suc further) d e h l = go (test d) refl (λ k q. first-earlier test further (suc d) e k q) l
+  where
+    go : (b : Bool) → test d ≡ b → (d < e → e < firstFrom test further (suc d) → test e ≡ false) → e < (elim b as (λ _. ℕ) [ true ↦ d | false ↦ firstFrom test further (suc d) ]) → test e ≡ false
+    go true p later q = absurd (omega arith)
+    go false p later q =
+        ⊎-elim (λ (k : d < e). later k q) (λ (k : e ≤ d). let z : e ≡ d = omega arith in ap test z ∙ p) (lt-or-ge d e)
+
+-- more metres reach no less
+pub cube-mono : {d e : ℕ} → d ≤ e → d * d * d * 102_960 ≤ e * e * e * 102_960
+cube-mono h = mul-le-mul-right 102_960 (mul-le-mul (mul-le-mul h h) h)
+
+-- a number is enough for itself
+own-cube : (n : ℕ) → n ≤ n * n * n * 102_960
+own-cube zero = zero-le
+own-cube (suc n) =
+    let one : 1 ≤ suc n = suc-le-suc zero-le in
+    let square : suc n * 1 ≤ suc n * suc n = mul-le-mul-left (suc n) one in
+    let cube : suc n * suc n * 1 ≤ suc n * suc n * suc n = mul-le-mul-left (suc n * suc n) one in
+    omega (arith, square, cube)
+
+pub is-least : (pounds hc : ℕ) → Least pounds hc (metresOf pounds hc)
+unfolding metresOf
+is-least pounds hc =
+    let need : ℕ = 4_913 * pounds * hc in
+    let whole : 0 + need ≡ need = omega arith in
+    let last : enough pounds hc (0 + need) ≡ true = ap (enough pounds hc) whole ∙ le-leb need (need * need * need * 102_960) (own-cube need) in
+    record {
+      enough = leb-true _ _ (first-passes (enough pounds hc) need 0 last);
+      no-smaller =
+          λ e h q. absurd (omega (arith, q, leb-false need (e * e * e * 102_960) (first-earlier (enough pounds hc) need 0 e zero-le h)));
+    }
+
+pub only-least : {pounds hc d : ℕ} → Least pounds hc d → d ≡ metresOf pounds hc
+only-least {pounds} {hc} {d} l =
+    let m = metresOf pounds hc in
+    let i = is-least pounds hc in
+    ⊎-elim (λ (k : d < m). absurd (i .no-smaller d k (l .enough)))
+    (λ (k : m ≤ d).
+    ⊎-elim (λ (s : m < d). absurd (l .no-smaller m s (i .enough))) (λ (s : d ≤ m). omega arith) (lt-or-ge m d))
+    (lt-or-ge d m)
+
+-- "the least whole number of metres D": there is exactly one
+pub exactly-one : (pounds hc : ℕ) → (d : ℕ) × Least pounds hc d × ((e : ℕ) → Least pounds hc e → e ≡ d)
+exactly-one pounds hc = (metresOf pounds hc, is-least pounds hc, λ e l. only-least l)
+
+-- ---- a fuller tank
+
+pub metres-mono : (hc p q : ℕ) → p ≤ q → metresOf p hc ≤ metresOf q hc
+metres-mono hc p q h =
+    ⊎-elim (λ (k : metresOf q hc < metresOf p hc).
+    absurd (is-least p hc .no-smaller (metresOf q hc) k (le-trans (mul-le-mul-right hc (mul-le-mul-left 4_913 h)) (is-least q hc .enough))))
+    (λ k. k)
+    (lt-or-ge (metresOf q hc) (metresOf p hc))
+
+-- "A fuller tank of one substance still never draws the smaller ring, now by the equation"
+pub fuller-no-smaller : (cas p q : ℕ) → p ≤ q → ringOf cas p .0 ≤ ringOf cas q .0
+unfolding ringOf
+fuller-no-smaller cas p q h = let k = metres-mono (heatOf cas) p q h in omega arith

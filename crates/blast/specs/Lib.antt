@@ -1,4 +1,4 @@
 pub mod Printed
-pub mod Printed13
+pub mod PrintedC1
 pub mod Blast
 pub mod Laws

@@ -1,8 +1,7 @@
--- The shape of a printed line of Table 13.
+-- The shape of a printed line of Exhibit C-1.
 -- Assumes nothing.
 use Prim.Native.Nat.{ℕ}
-use mathlib.Core.List.{List}
 
--- a flammable substance: its CAS number, and its distance in hundredths of a mile for each quantity
-pub data FlammableLine : Type 0 where
-  flammable : ℕ → List ℕ → FlammableLine
+-- a flammable substance: its CAS number, and its heat of combustion in kilojoules per kilogram
+pub data HeatLine : Type 0 where
+  heat : ℕ → ℕ → HeatLine

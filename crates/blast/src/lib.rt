@@ -1,36 +1,50 @@
-// Table 13: the distance to which a vapour cloud explosion of a flammable substance reaches.
+// Equation C-1: the ring of a blast, by the quantity of a flammable substance and its heat of combustion in Exhibit C-1.
 mod tables;
 
-use tables::DISTANCE;
-use tables::QUANTITY;
 use units::Miles;
 use units::Pounds;
-use units::Reading;
 ghost use mathlib.Core.Path.{_≡_};
-ghost use Rattle.blast.specs.Blast.{isFlammable, blastReading};
+ghost use Prim.Native.Nat.{_≤_};
+ghost use Rattle.blast.specs.Blast.{isFlammable, metresOf, ringOf};
 
-// Table 13 lists 63 substances.
-const SUBSTANCES: usize = 63;
+// Enough metres for any quantity of four bytes at any heat up to 150,000, and the least such number.
+const FARTHEST: u64 = 31_327;
 
-// Whether Table 13 lists the substance.
+// Whether Exhibit C-1 lists the substance.
 pub fn is_flammable(cas: u32) -> bool
     ensures { λ r. ⌜ r ≡ isFlammable cas ⌝ }
 {
-    tables::place_of(cas) < SUBSTANCES
+    0 < tables::heat_of(cas)
 }
 
-// The entry of the substance's row under the smallest printed quantity that is at least the one given.
-pub fn read(cas: u32, quantity: Pounds) -> Reading
-    ensures { λ r. ⌜ r ≡ blastReading cas (quantity .0) ⌝ }
+// The least whole number of metres whose cube, times 102,960, is at least 4,913 times the pounds times the heat. Every number below
+// `low` is too small and `high` is enough, so that halving what lies between them finds it in fifteen steps at most.
+fn metres(pounds: u32, heat: u32) -> u64
+    requires { ⌜ heat ≤ 150_000 ⌝ }
+    ensures { λ r. ⌜ r ≡ metresOf pounds heat ⌝ }
+    ensures { λ r. ⌜ r ≤ 31_327 ⌝ }
 {
-    let pounds = quantity.0;
-    let row = tables::place_of(cas);
-    let column = search::first_at_least(&QUANTITY, pounds as u64);
-    if row < SUBSTANCES {
-        if column < QUANTITY.len() {
-            let distance = DISTANCE[QUANTITY.len() * row + column] as u16;
-            return Reading::Distance(Miles(distance));
+    let need = 4_913 * (pounds as u64) * (heat as u64);
+    let mut low = 0;
+    let mut high = FARTHEST;
+    while low < high {
+        let middle = (low + high) / 2;
+        let next = middle + 1;
+        if middle * middle * middle * 102_960 < need {
+            low = next;
+        } else {
+            high = middle;
         }
     }
-    Reading::Beyond
+    low
+}
+
+// The distance of a blast, in hundredths of a mile: a mile has 1,609.344 metres.
+pub fn ring(cas: u32, quantity: Pounds) -> Miles
+    ensures { λ r. ⌜ r ≡ ringOf cas (quantity .0) ⌝ }
+{
+    let pounds = quantity.0;
+    let heat = tables::heat_of(cas);
+    let distance = metres(pounds, heat);
+    Miles(((distance * 100_000 + 1_609_343) / 1_609_344) as u16)
 }

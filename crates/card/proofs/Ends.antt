@@ -18,7 +18,7 @@ use Rattle.meaning.specs.Reading.{meaningOf}
 use Rattle.card.specs.declared.Class.the-variants as class
 use Rattle.card.specs.declared.Answered.{Answered}
 use Rattle.card.specs.declared.Answered.the-variants as answered
-use Rattle.card.specs.Answers.{readToxic, plannedAnswer, readFlammable, answerFor, answerOf}
+use Rattle.card.specs.Answers.{readToxic, plannedAnswer, blastAnswer, answerFor, answerOf}
 
 pub read-end : (x v w : Reading) (n : ℕ) (s : Scenario) (r : Answered) → x ≡ v → x ≡ w → r ≡ readToxic w n s → r ≡ readToxic v n s
 read-end x v w n s r e q m = m ∙ ap (λ y. readToxic y n s) (sym q ∙ e)
@@ -26,13 +26,9 @@ read-end x v w n s r e q m = m ∙ ap (λ y. readToxic y n s) (sym q ∙ e)
 pub plan-end : (x v w : Planned) (n : ℕ) (card : ToxicCard) (r : Answered) → x ≡ v → x ≡ w → r ≡ plannedAnswer w n card → r ≡ plannedAnswer v n card
 plan-end x v w n card r e q m = m ∙ ap (λ y. plannedAnswer y n card) (sym q ∙ e)
 
-pub blast-beyond : (x v : Reading) (n : ℕ) (r : Answered) → x ≡ v → x ≡ reading.Beyond → r ≡ readFlammable reading.Beyond n → r ≡ readFlammable v n
-blast-beyond x v n r e q m = m ∙ ap (λ y. readFlammable y n) (sym q ∙ e)
-
-pub blast-read : (x v : Reading) (n : ℕ) (d : Miles) (rate : PoundsPerMinute) → x ≡ v → x ≡ reading.Distance d → rate .0 ≡ 0 → answered.Is (record { number = n; class = class.Flammable; route = 3; table = 13; rate = rate; distance = d }) ≡ readFlammable v n
-blast-read x v n d rate e q z =
-    (λ i. answered.Is (record { number = n; class = class.Flammable; route = 3; table = 13; rate = record { 0 = z i }; distance = d }))
-    ∙ ap (λ y. readFlammable y n) (sym q ∙ e)
+pub blast-end : (n : ℕ) (x d : Miles) (rate : PoundsPerMinute) → x ≡ d → rate .0 ≡ 0 → answered.Is (record { number = n; class = class.Flammable; route = 3; table = 0; rate = rate; distance = x }) ≡ answered.Is (blastAnswer d n)
+blast-end n x d rate e z =
+    (λ i. answered.Is (record { number = n; class = class.Flammable; route = 3; table = 0; rate = record { 0 = z i }; distance = e i }))
 
 pub card-end : (bytes : List ℕ) (last : ℕ) (f : Fields) (m w : Meaning) (r : Answered) → f ≡ fieldsOf bytes → m ≡ meaningOf f last → m ≡ w → r ≡ answerFor w (f .number) → r ≡ answerOf bytes last
 unfolding answerOf

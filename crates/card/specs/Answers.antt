@@ -2,10 +2,11 @@
 -- Assumes nothing.
 use Prim.Native.Nat.{ℕ}
 use mathlib.Core.List.{List}
+use Rattle.units.specs.declared.Miles.{Miles}
 use Rattle.units.specs.declared.Reading.{Reading}
 use Rattle.units.specs.declared.Reading.the-variants as reading
 use Rattle.dispersion.specs.Tables.{readingOf}
-use Rattle.blast.specs.Blast.{blastReading}
+use Rattle.blast.specs.Blast.{ringOf}
 use Rattle.scenario.specs.declared.ToxicCard.{ToxicCard}
 use Rattle.scenario.specs.declared.Scenario.{Scenario}
 use Rattle.scenario.specs.declared.Planned.{Planned}
@@ -43,24 +44,15 @@ plannedAnswer (planned.Planned s) number card =
     readToxic (readingOf (s .table) (card .ground) (s .rate .0) (s .endpoint)) number s
 plannedAnswer planned.Mismatch number card = answered.Refused refusal.Mismatch
 
--- "Route 3, blast: rate 0." 11: "flammable above 2,000,000 lb"
-abbrev pub readFlammable : Reading → ℕ → Answered
-readFlammable (reading.Distance d) number =
-    answered.Is
-    (record {
-      number = number;
-      class = class.Flammable;
-      route = 3;
-      table = 13;
-      rate = record { 0 = 0 };
-      distance = d;
-    })
-readFlammable reading.Beyond number = answered.Refused refusal.Beyond
+-- "Route 3, blast: rate 0."; document 02, A7: "new flammable answers carry table number 0"
+abbrev pub blastAnswer : Miles → ℕ → Answer
+blastAnswer d number =
+    record { number = number; class = class.Flammable; route = 3; table = 0; rate = record { 0 = 0 }; distance = d }
 
 -- the answer of a meaning
 abbrev pub answerFor : Meaning → ℕ → Answered
 answerFor (meaning.Toxic card) number = plannedAnswer (planOf card) number card
-answerFor (meaning.Flammable card) number = readFlammable (blastReading (card .cas) (card .quantity .0)) number
+answerFor (meaning.Flammable card) number = answered.Is (blastAnswer (ringOf (card .cas) (card .quantity .0)) number)
 answerFor (meaning.Refused r) number = answered.Refused r
 
 -- the answer of a card's bytes after the last card's number

@@ -1,4 +1,4 @@
-// The answer of one card, from its 24 bytes: read, planned, and read off a table.
+// The answer of one card, from its 24 bytes: read, planned, and read off a table; or a blast by its equation.
 use meaning::FlammableCard;
 use meaning::Meaning;
 use refusals::Refusal;
@@ -10,8 +10,9 @@ use units::PoundsPerMinute;
 use units::Reading;
 ghost use mathlib.Core.Path.{_≡_};
 ghost use Rattle.scenario.specs.Plan.{Limits, planOf};
-ghost use Rattle.card.specs.Answers.{readToxic, plannedAnswer, readFlammable, answerOf};
-ghost use Rattle.blast.specs.Blast.{blastReading};
+ghost use Rattle.card.specs.Answers.{readToxic, plannedAnswer, blastAnswer, answerOf};
+ghost use Rattle.card.specs.declared.Answered.the-variants.{Is};
+ghost use Rattle.blast.specs.Blast.{ringOf};
 ghost use Rattle.dispersion.specs.Tables.{readingOf};
 
 // The two classes of which a register tells the farthest card: kinds 1 and 2.
@@ -68,20 +69,17 @@ fn toxic_answer(number: u32, card: ToxicCard) -> Answered
     toxic_read(number, card, scenario)
 }
 
-// A flammable card: a blast, read by its quantity.
+// A flammable card: a blast, by the equation. No table is read, which number 0 tells.
 fn flammable_answer(number: u32, card: FlammableCard) -> Answered
-    ensures { λ r. ⌜ r ≡ readFlammable (blastReading (card .cas) (card .quantity .0)) number ⌝ }
+    ensures { λ r. ⌜ r ≡ Is (blastAnswer (ringOf (card .cas) (card .quantity .0)) number) ⌝ }
 {
     let quantity = card.quantity;
-    let reading = blast::read(card.cas, quantity);
-    let Reading::Distance(distance) = reading else {
-        return Answered::Refused(Refusal::Beyond);
-    };
+    let distance = blast::ring(card.cas, quantity);
     Answered::Is(Answer {
         number,
         class: Class::Flammable,
         route: 3,
-        table: 13,
+        table: 0,
         rate: release::no_rate(),
         distance,
     })

@@ -6,13 +6,12 @@ use native.Mathlib.Omega.{arith}
 use mathlib.Core.Path.{_≡_, _∙_, refl, sym, ap, subst}
 use mathlib.Core.Bool.{Bool, true, false, not}
 use mathlib.Core.List.{List, [], _∷_, map}
-use mathlib.Core.Logic.{⊎-elim}
 use lib.Dec.{eqb, ltb}
 use lib.ListN.{getD, length, length-map}
-use borrow.Author.Tests.{eqb-true, ltb-true, lt-ltb, le-ltb}
+use borrow.Author.Tests.{eqb-true, ltb-true}
 use Rattle.search.specs.Rising.{both, firstAtLeast}
-use Rattle.search.specs.Laws.{both-true, lt-or-ge, first-on, first-mono, first-reaches, rising}
-use Rattle.search.specs.PlaceLaws.{look-listed, every-at}
+use Rattle.search.specs.Laws.{both-true, first-on}
+use Rattle.search.specs.PlaceLaws.{every-at}
 use Rattle.units.specs.declared.Reading.{Reading}
 use Rattle.units.specs.declared.Reading.the-variants as reading
 use Rattle.dispersion.specs.declared.Ground.{Ground}
@@ -23,9 +22,6 @@ use Rattle.rules.specs.Cuts.{cuts, cutsFrom, climbs, climbsFrom, uppers}
 use Rattle.rules.specs.Closest.{closest-by-cuts}
 use Rattle.dispersion.specs.Laws.{inOrder, in-order}
 use Rattle.rules.specs.Laws.{length-thousandths, never-past}
-use Rattle.blast.specs.Printed13.{quantities, table13}
-use Rattle.blast.specs.Blast.{casOf, rowIn, rowOf, entryAt, isFlammable, blastReading}
-use Rattle.blast.specs.Laws.{entry-in, entry-out}
 use Rattle.conditions.specs.Conditions.{aboveLast, lastInUse, beyondTable}
 
 -- what a table does not answer
@@ -121,46 +117,3 @@ module _ (ground : Ground) (rate endpoint : ℕ) where
   pub reading-beyond : (n : ℕ) → beyondTable (getD tables n unprinted) ground rate endpoint ≡ isBeyond (readingOf n ground rate endpoint)
   unfolding readingOf
   reading-beyond n = table-beyond (getD tables n unprinted) (in-order n) (endless-at n)
-
--- a flammable substance's row has an entry for each quantity
-row-length : (cas : ℕ) → isFlammable cas ≡ true → length (rowOf cas) ≡ 11
-unfolding rowOf isFlammable table13
-row-length cas h = eqb-true (length (rowOf cas)) 11 (look-listed casOf rowIn cas (λ row. eqb (length row) 11) table13 [] h refl)
-
--- a quantity has its place among the printed ones exactly up to 2,000,000 lb
-last-quantity : firstAtLeast 2_000_000 quantities ≡ 10
-unfolding quantities firstAtLeast
-last-quantity = refl
-
-largest-quantity : (i : ℕ) → i < 11 → getD quantities i 0 ≤ 2_000_000
-unfolding quantities
-largest-quantity i h = rising quantities refl i 10 (omega arith) (omega arith)
-
-reached-quantity : (pounds : ℕ) → firstAtLeast pounds quantities < 11 → pounds ≤ getD quantities (firstAtLeast pounds quantities) 0
-unfolding quantities
-reached-quantity pounds h = first-reaches pounds quantities h
-
-module _ (pounds : ℕ) where
-  quantity-near : pounds ≤ 2_000_000 → firstAtLeast pounds quantities < 11
-  quantity-near h = omega (arith, first-mono pounds 2_000_000 quantities h, last-quantity)
-
-  quantity-far : 2_000_000 < pounds → 11 ≤ firstAtLeast pounds quantities
-  quantity-far h = ⊎-elim inside (λ (l : 11 ≤ firstAtLeast pounds quantities). l) (lt-or-ge (firstAtLeast pounds quantities) 11)
-    where
-      inside : firstAtLeast pounds quantities < 11 → 11 ≤ firstAtLeast pounds quantities
-      inside l = omega (arith, reached-quantity pounds l, largest-quantity (firstAtLeast pounds quantities) l)
-
--- 11 holds exactly where Table 13 does not answer for a listed substance
-pub blast-beyond : (cas pounds : ℕ) → isFlammable cas ≡ true → ltb 2_000_000 pounds ≡ isBeyond (blastReading cas pounds)
-unfolding blastReading
-blast-beyond cas pounds h = ⊎-elim far near (lt-or-ge 2_000_000 pounds)
-  where
-    far : 2_000_000 < pounds → ltb 2_000_000 pounds ≡ isBeyond (entryAt (rowOf cas) (firstAtLeast pounds quantities))
-    far l =
-        lt-ltb 2_000_000 pounds l
-        ∙ ap isBeyond (sym (entry-out (rowOf cas) (firstAtLeast pounds quantities) (subst (λ n. n ≤ firstAtLeast pounds quantities) (sym (row-length cas h)) (quantity-far pounds l))))
-
-    near : pounds ≤ 2_000_000 → ltb 2_000_000 pounds ≡ isBeyond (entryAt (rowOf cas) (firstAtLeast pounds quantities))
-    near l =
-        le-ltb 2_000_000 pounds l
-        ∙ ap isBeyond (sym (entry-in (rowOf cas) (firstAtLeast pounds quantities) (subst (λ n. firstAtLeast pounds quantities < n) (sym (row-length cas h)) (quantity-near pounds l))))

@@ -15,7 +15,7 @@ use Rattle.units.specs.declared.Reading.the-variants as reading
 use Rattle.exhibits.specs.declared.Toxic.{Toxic}
 use Rattle.solutions.specs.Solutions.{badPercent}
 use Rattle.dispersion.specs.Tables.{readingOf}
-use Rattle.blast.specs.Blast.{isFlammable, blastReading}
+use Rattle.blast.specs.Blast.{isFlammable}
 use Rattle.which_table.specs.declared.State.{State}
 use Rattle.scenario.specs.declared.ToxicCard.{ToxicCard}
 use Rattle.scenario.specs.declared.Planned.{Planned}
@@ -46,14 +46,14 @@ use Rattle.form.specs.Inverse.{Stands, toxic-shape, flammable-shape}
 use Rattle.form.specs.Same.{Blank, flammable-blank}
 use Rattle.card.specs.declared.Answered.{Answered}
 use Rattle.card.specs.declared.Answered.the-variants as answered
-use Rattle.card.specs.Answers.{readToxic, plannedAnswer, readFlammable, answerFor, answerOf}
-use Rattle.conditions.specs.Conditions.{anyOf, inSolution, ofGas, ofLiquid, ofTable13, ofSolution, badCas, badTemperature, badConcentration, mismatched, toxicCard, groundIn, beyondPlan, beyond, ofCard}
+use Rattle.card.specs.Answers.{readToxic, plannedAnswer, answerFor, answerOf}
+use Rattle.conditions.specs.Conditions.{anyOf, inSolution, ofGas, ofLiquid, ofFlammable, ofSolution, badCas, badTemperature, badConcentration, mismatched, toxicCard, groundIn, beyondPlan, beyond, ofCard}
 use Rattle.conditions.specs.First.{Verdict, passed, refused, pick, firstOf}
 use Rattle.conditions.specs.Form.{either-last, isRefused, form-is}
 use Rattle.conditions.specs.Substances.{pure-listed, pure-in-range, solution-listed, solution-range}
 use Rattle.conditions.specs.Mismatch.{isMismatch, mismatch-none, mismatch-is}
 use Rattle.conditions.specs.Vessel.{cardFrom, card-made, ground-made}
-use Rattle.conditions.specs.Beyond.{isBeyond, reading-beyond, blast-beyond}
+use Rattle.conditions.specs.Beyond.{isBeyond, reading-beyond}
 
 -- an answer, or a refusal
 abbrev pub verdictOf : Answered → Verdict
@@ -115,7 +115,7 @@ casIn card kind =
     anyOf (
     both (eqb kind 1) (both (not (inSolution card)) (not (either (ofGas card) (ofLiquid card))))
     ∷ both (eqb kind 1) (both (inSolution card) (not (ofSolution card)))
-    ∷ both (eqb kind 2) (not (ofTable13 card))
+    ∷ both (eqb kind 2) (not (ofFlammable card))
     ∷ []
     )
 
@@ -125,22 +125,20 @@ cas-toxic card e =
     ap (casIn card) e
     ∙ ap (either (both (not (inSolution card)) (not (either (ofGas card) (ofLiquid card))))) (either-last (both (inSolution card) (not (ofSolution card))))
 
-cas-flammable : (card : List ℕ) → byteAt card 0 ≡ 2 → badCas card ≡ not (ofTable13 card)
+cas-flammable : (card : List ℕ) → byteAt card 0 ≡ 2 → badCas card ≡ not (ofFlammable card)
 unfolding badCas
-cas-flammable card e = ap (casIn card) e ∙ either-last (not (ofTable13 card))
+cas-flammable card e = ap (casIn card) e ∙ either-last (not (ofFlammable card))
 
 -- 11 for each kind
 beyond-toxic : (card : List ℕ) (standing : Standing) → Stands (fieldsOf card) standing → beyond card ≡ beyondPlan (planOf (cardFrom (fieldsOf card) standing)) (standing .ground)
 unfolding beyond fieldsOf
 beyond-toxic card standing from =
-    ap (λ k. either (both (eqb k 1) (beyondPlan (planOf (toxicCard card)) (groundIn (byteAt card 2)))) (both (eqb k 2) (ltb 2_000_000 (fieldsOf card .pounds)))) (from .kind)
-    ∙ (either-last (beyondPlan (planOf (toxicCard card)) (groundIn (byteAt card 2)))
-    ∙ ap₂ (λ x g. beyondPlan (planOf x) g) (card-made card standing from) (ground-made card standing from))
+    ap (λ k. both (eqb k 1) (beyondPlan (planOf (toxicCard card)) (groundIn (byteAt card 2)))) (from .kind)
+    ∙ ap₂ (λ x g. beyondPlan (planOf x) g) (card-made card standing from) (ground-made card standing from)
 
-beyond-flammable : (card : List ℕ) → byteAt card 0 ≡ 2 → beyond card ≡ ltb 2_000_000 (fieldsOf card .pounds)
+beyond-flammable : (card : List ℕ) → byteAt card 0 ≡ 2 → beyond card ≡ false
 unfolding beyond
-beyond-flammable card e =
-    ap (λ k. either (both (eqb k 1) (beyondPlan (planOf (toxicCard card)) (groundIn (byteAt card 2)))) (both (eqb k 2) (ltb 2_000_000 (fieldsOf card .pounds)))) e
+beyond-flammable card e = ap (λ k. both (eqb k 1) (beyondPlan (planOf (toxicCard card)) (groundIn (byteAt card 2)))) e
 
 -- 7, 15 and 16 of a toxic card, by byte 1
 module _ (card : List ℕ) where
@@ -242,7 +240,7 @@ unfolding among fieldsOf
 mismatch-blank card b = mismatch-none card 0 (b .state) refl
 
 flammable-verdict : (card : List ℕ) (n : ℕ) → shapeOf (fieldsOf card) ≡ shape.Flammable → verdictOf (answerFor (flammableOf (fieldsOf card)) n) ≡ behindForm card
-unfolding flammableOf fieldsOf ofTable13 isFlammable ofCard firstOf
+unfolding flammableOf fieldsOf ofFlammable isFlammable ofCard firstOf
 flammable-verdict card n e =
     let f : Fields = fieldsOf card in
     let kind = flammable-shape f e in
@@ -257,12 +255,7 @@ flammable-verdict card n e =
     (unmet (badTemperature card) refusal.Temperature (heat-blank card b)
     (unmet (badConcentration card) refusal.Concentration (concentration-blank card b)
     (unmet (mismatched card) refusal.Mismatch (mismatch-blank card b)
-    (go (blastReading (f .cas) (f .pounds))
-    ∙ ap (λ t. pick t refusal.Beyond passed) (sym (beyond-flammable card kind ∙ blast-beyond (f .cas) (f .pounds) (not-false (isFlammable (f .cas)) l)))))))))))
-  where
-    go : (x : Reading) → verdictOf (readFlammable x n) ≡ pick (isBeyond x) refusal.Beyond passed
-    go (reading.Distance d) = refl
-    go reading.Beyond = refl
+    (unmet (beyond card) refusal.Beyond (beyond-flammable card kind) refl))))))))
 
 -- ---- any card
 

@@ -22,7 +22,7 @@ use Rattle.dispersion.specs.declared.Ground.the-variants.{Rural, Urban}
 use Rattle.rules.specs.Rules.{distance, inUse, larger, closest, closestColumn, fromColumn, thousandths, lastOf, past, markOf, mileLimit}
 use Rattle.dispersion.specs.Tables.{Table, ranges, grid, lines, unprinted, tables, rateOf, entryOf}
 use Rattle.blast.specs.Blast.{casOf}
-use Rattle.blast.specs.Printed13.{table13}
+use Rattle.blast.specs.PrintedC1.{c1}
 use Rattle.release.specs.declared.Containment.{Containment}
 use Rattle.release.specs.declared.Containment.the-variants.{Open, Dike, Building, ShedWithDoors}
 use Rattle.which_table.specs.declared.State.{State}
@@ -99,15 +99,15 @@ badForm card =
     ∷ []
     )
 
--- "Toxic gases are those of Exhibit B-1, liquids those of B-2, flammables those of Table 13."
+-- "Toxic gases are those of Exhibit B-1, liquids those of B-2, flammables those of Table 13", the 63 substances of Exhibit C-1
 unfoldable pub ofGas : List ℕ → Bool
 ofGas card = among (fieldsOf card .cas) (map gasCas b1)
 
 unfoldable pub ofLiquid : List ℕ → Bool
 ofLiquid card = among (fieldsOf card .cas) (map liquidCas b2)
 
-unfoldable pub ofTable13 : List ℕ → Bool
-ofTable13 card = among (fieldsOf card .cas) (map casOf table13)
+unfoldable pub ofFlammable : List ℕ → Bool
+ofFlammable card = among (fieldsOf card .cas) (map casOf c1)
 
 -- the substances of Exhibit B-3
 unfoldable pub ofSolution : List ℕ → Bool
@@ -119,7 +119,7 @@ badCas card =
     anyOf (
     both (toxic card) (both (not (inSolution card)) (not (either (ofGas card) (ofLiquid card))))
     ∷ both (toxic card) (both (inSolution card) (not (ofSolution card)))
-    ∷ both (flammable card) (not (ofTable13 card))
+    ∷ both (flammable card) (not (ofFlammable card))
     ∷ []
     )
 
@@ -243,12 +243,9 @@ abbrev pub beyondPlan : Planned → Ground → Bool
 beyondPlan (planned.Planned s) ground = beyondTable (getD tables (s .table) unprinted) ground (s .rate .0) (s .endpoint)
 beyondPlan planned.Mismatch ground = false
 
--- 11: "beyond the table; flammable above 2,000,000 lb"
+-- 11: "beyond the table". Document 02, A7: "Number 11 no longer comes from a flammable card."
 unfoldable pub beyond : List ℕ → Bool
-beyond card =
-    either
-    (both (toxic card) (beyondPlan (planOf (toxicCard card)) (groundIn (byteAt card 2))))
-    (both (flammable card) (ltb 2_000_000 (fieldsOf card .pounds)))
+beyond card = both (toxic card) (beyondPlan (planOf (toxicCard card)) (groundIn (byteAt card 2)))
 
 -- a line of the table: a refusal, which has its number, and whether its condition holds
 pub data Condition : Type 0 where

@@ -14,8 +14,8 @@ use Rattle.units.specs.declared.Reading.{Reading}
 use Rattle.units.specs.declared.Reading.the-variants as reading
 use Rattle.dispersion.specs.Tables.{readingOf}
 use Rattle.dispersion.specs.Laws.{reading-mono}
-use Rattle.blast.specs.Blast.{blastReading}
-use Rattle.blast.specs.Laws.{blast-mono}
+use Rattle.blast.specs.Blast.{ringOf}
+use Rattle.blast.specs.Laws.{fuller-no-smaller}
 use Rattle.scenario.specs.declared.ToxicCard.{ToxicCard}
 use Rattle.scenario.specs.declared.Scenario.{Scenario}
 use Rattle.scenario.specs.declared.Planned.{Planned}
@@ -40,7 +40,7 @@ use Rattle.card.specs.declared.Class.the-variants as class
 use Rattle.card.specs.declared.Answer.{Answer}
 use Rattle.card.specs.declared.Answered.{Answered}
 use Rattle.card.specs.declared.Answered.the-variants as answered
-use Rattle.card.specs.Answers.{readToxic, plannedAnswer, readFlammable, answerFor, answerOf}
+use Rattle.card.specs.Answers.{readToxic, plannedAnswer, answerFor, answerOf}
 
 -- "A class is kind 1 or kind 2."
 abbrev pub kindOf : Class → ℕ
@@ -108,12 +108,6 @@ toxic-answer card (planned.Planned s) n q e =
     record { scenario = s; plan = q; class = t .0; route = t .1; table = t .2; reading = t .3 }
 toxic-answer card planned.Mismatch n q e = absurd (refused-not e)
 
-read-flammable : (x : Reading) (n : ℕ) {a : Answer} → readFlammable x n ≡ answered.Is a → (a .class ≡ class.Flammable) × (x ≡ reading.Distance (a .distance))
-read-flammable (reading.Distance d) n e =
-    let same = answer-is e in
-    (sym (ap (λ (b : Answer). b .class) same), ap (λ (b : Answer). reading.Distance (b .distance)) same)
-read-flammable reading.Beyond n e = absurd (refused-not e)
-
 -- a card that is answered is a toxic or a flammable one
 record ToxicBytes (f : Fields) (a : Answer) : Type 0 where
   card : ToxicCard
@@ -124,14 +118,20 @@ record FlammableBytes (f : Fields) (a : Answer) : Type 0 where
   card : FlammableCard
   from : FlammableFrom f card
   class : a .class ≡ class.Flammable
-  reading : blastReading (card .cas) (card .quantity .0) ≡ reading.Distance (a .distance)
+  distance : ringOf (card .cas) (card .quantity .0) ≡ a .distance
 
 answered-from : (f : Fields) (last : ℕ) (m : Meaning) {a : Answer} → meaningOf f last ≡ m → answerFor m (f .number) ≡ answered.Is a → ToxicBytes f a ⊎ FlammableBytes f a
 answered-from f last (meaning.Toxic card) p e =
     inl (record { card = card; from = toxic-from f last p; answer = toxic-answer card (planOf card) (f .number) refl e })
 answered-from f last (meaning.Flammable card) p e =
-    let t = read-flammable (blastReading (card .cas) (card .quantity .0)) (f .number) e in
-    inr (record { card = card; from = flammable-from f last p; class = t .0; reading = t .1 })
+    let same = answer-is e in
+    inr
+    (record {
+      card = card;
+      from = flammable-from f last p;
+      class = sym (ap (λ (b : Answer). b .class) same);
+      distance = ap (λ (b : Answer). b .distance) same;
+    })
 answered-from f last (meaning.Refused r) p e = absurd (refused-not e)
 
 from-bytes : (x : List ℕ) (last : ℕ) {a : Answer} → answerOf x last ≡ answered.Is a → ToxicBytes (fieldsOf x) a ⊎ FlammableBytes (fieldsOf x) a
@@ -229,8 +229,8 @@ flammable-ordered : {f g : Fields} {a b : Answer} → SameFields f g → (x : Fl
 flammable-ordered {f} {g} {a} {b} s x y =
     let k : x .card .cas ≡ y .card .cas = sym (x .from .cas) ∙ (s .cas ∙ y .from .cas) in
     let h : x .card .quantity .0 ≤ y .card .quantity .0 = rw (← (x .from .quantity), ← (y .from .quantity)) (s .quantity) in
-    blast-mono (x .card .cas) (x .card .quantity .0) (y .card .quantity .0) (a .distance) (b .distance) h (x .reading)
-    (ap (λ c. blastReading c (y .card .quantity .0)) k ∙ y .reading)
+    let far : ringOf (x .card .cas) (y .card .quantity .0) ≡ b .distance = ap (λ c. ringOf c (y .card .quantity .0)) k ∙ y .distance in
+    rw (← (x .distance), ← far) (fuller-no-smaller (x .card .cas) (x .card .quantity .0) (y .card .quantity .0) h)
 
 -- The law on two cards: a counterpart by the same route and table is of the same class and never answers less.
 pub record NoLess (a b : Answer) : Type 0 where

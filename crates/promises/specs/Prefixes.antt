@@ -38,16 +38,16 @@ rows =
     leaders listed 0 none none
     ∷ leaders listed 1 (at 11 150) none
     ∷ leaders listed 2 (at 12 180) none
-    ∷ leaders listed 3 (at 12 180) (at 13 20)
+    ∷ leaders listed 3 (at 12 180) (at 13 18)
     -- beyond the count: all cards
-    ∷ leaders listed 4 (at 12 180) (at 13 20)
-    ∷ leaders listed 18_446_744_073_709_551_615 (at 12 180) (at 13 20)
+    ∷ leaders listed 4 (at 12 180) (at 13 18)
+    ∷ leaders listed 18_446_744_073_709_551_615 (at 12 180) (at 13 18)
     ∷ leaders [] 1 none none
     -- a flammable card leaves the toxic leader alone, and on a tie the earlier card stays
     ∷ leaders tied 1 (at 1 340) none
-    ∷ leaders tied 2 (at 1 340) (at 2 30)
-    ∷ leaders tied 3 (at 1 340) (at 2 30)
-    ∷ leaders tied 4 (at 1 340) (at 2 30)
+    ∷ leaders tied 2 (at 1 340) (at 2 22)
+    ∷ leaders tied 3 (at 1 340) (at 2 22)
+    ∷ leaders tied 4 (at 1 340) (at 2 22)
     -- a farther card takes the lead
     ∷ leaders (bromine in-building 100 0 1 ∷ chlorine rural in-open 0 2_249 2 ∷ []) 1 (at 1 40) none
     ∷ leaders (bromine in-building 100 0 1 ∷ chlorine rural in-open 0 2_249 2 ∷ []) 2 (at 2 300) none

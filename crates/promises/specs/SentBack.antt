@@ -10,7 +10,7 @@ use Rattle.refusals.specs.Numbers.{numberOf}
 use Rattle.walk.specs.declared.Outcome.{Outcome}
 use Rattle.walk.specs.declared.Outcome.the-variants as outcome
 use Rattle.cards.specs.Register.{outcomeOf}
-use Rattle.conditions.specs.Conditions.{Condition, condition, unlisted, filled, badToxic, badFlammable, badForm, ofGas, ofLiquid, ofTable13, ofSolution, badCas, mismatched, aboveLast, lastInUse, beyondTable, stateIn, groundIn, heldIn, beyond, ofRegister, ofCard, only, conditionsAt}
+use Rattle.conditions.specs.Conditions.{Condition, condition, unlisted, filled, badToxic, badFlammable, badForm, ofGas, ofLiquid, ofFlammable, ofSolution, badCas, mismatched, aboveLast, lastInUse, beyondTable, stateIn, groundIn, heldIn, beyond, ofRegister, ofCard, only, conditionsAt}
 use Rattle.promises.specs.Starred.{cardOf, registerOf, chlorine, ammonia, bromine, propane, rural, urban, in-open, in-dike, computed}
 use Rattle.promises.specs.Solutions.{hydrochloric}
 use Rattle.promises.specs.Sheds.{with-doors}
@@ -81,6 +81,8 @@ examples =
     ∷ card 7 (cardOf 1 4 rural in-open 8014957 10_000 0 0 250 1)
     -- state 6 is none
     ∷ card 6 (cardOf 1 6 rural in-open 7647010 10_000 0 0 370 1)
+    -- document 02, A7: a flammable card is never 11; above 10,000,000 lb it is 8
+    ∷ card 8 (propane 10_000_001 1)
     -- "Byte 3 admits 3, with the area rules of 2": no floor, a floor above the largest, a wall; and 4 is none
     ∷ card 9 (bromine with-doors 0 0 1)
     ∷ card 9 (hydrochloric rural with-doors 10_000 1_000_001 0 370 1)
@@ -120,5 +122,5 @@ stated e = e .number ∷ e .place ∷ e .number ∷ []
 
 -- Every example of the table.
 pub sent-back : map defined examples ≡ map stated examples
-unfolding examples computed holding conditionsAt only ofRegister ofCard badForm badToxic badFlammable unlisted filled badCas ofGas ofLiquid ofTable13 ofSolution mismatched beyond stateIn groundIn heldIn beyondTable aboveLast lastInUse
+unfolding examples computed holding conditionsAt only ofRegister ofCard badForm badToxic badFlammable unlisted filled badCas ofGas ofLiquid ofFlammable ofSolution mismatched beyond stateIn groundIn heldIn beyondTable aboveLast lastInUse
 sent-back = refl

@@ -4,7 +4,6 @@ use Prim.Native.Nat.{ℕ, _+_, _*_}
 use mathlib.Core.Path.{_≡_, refl}
 use mathlib.Core.List.{List, [], _∷_, _++_, map}
 use lib.ListN.{length}
-use Rattle.search.specs.Rising.{firstAtLeast}
 use Rattle.search.specs.Places.{among, lookUp}
 use Rattle.exhibits.specs.PrintedB1.{b1}
 use Rattle.exhibits.specs.PrintedB2.{b2}
@@ -18,8 +17,8 @@ use Rattle.dense.specs.PrintedDense.{endpoints5, endpoints6, endpoints7, endpoi
 use Rattle.dispersion.specs.PrintedChemical.{table9, table10, table11, table12}
 use Rattle.rules.specs.Rules.{answered, apart, byRange, byRow, closest, closestColumn, closestFrom, closestRow, distance, fromColumn, holding, inUse, larger, largest, lastOf, markOf, past, ratioBelow, smaller, thousandths}
 use Rattle.dispersion.specs.Tables.{readIn, readingOf, tables}
-use Rattle.blast.specs.Printed13.{quantities, table13}
-use Rattle.blast.specs.Blast.{blastReading, entryAt, isFlammable, rowOf}
+use Rattle.blast.specs.PrintedC1.{c1}
+use Rattle.blast.specs.Blast.{firstFrom, heatOf, isFlammable, metresOf, ringOf}
 use Rattle.release.specs.Rates.{atMostTenMinutes, poolRate}
 use Rattle.pool_area.specs.Pool.{dikedArea, poolArea}
 use Rattle.factors.specs.Factors.{columnOf}
@@ -171,10 +170,10 @@ rows =
     ∷ row (toxic 12 (bromine in-dike 100 1) 2 8 (given 320_000) 327_040 1_100 ∷ []) (at 12 1_100) none
     -- "*shed of 100 sq ft: 1.022, 0.40."
     ∷ row (toxic 12 (bromine in-building 100 0) 2 8 not-given 1_022 40 ∷ []) (at 12 40) none
-    -- "*Propane 20,000 lb: 0.20;"
-    ∷ row (flammable 13 (propane 20_000) 3 13 not-given 0 20 ∷ []) none (at 13 20)
-    -- "*20,001 lb: 0.30."
-    ∷ row (flammable 13 (propane 20_001) 3 13 not-given 0 30 ∷ []) none (at 13 30)
+    -- "*Propane 20,000 lb", "recomputed" by document 02, A7: 354 metres, 0.22
+    ∷ row (flammable 13 (propane 20_000) 3 0 not-given 0 22 ∷ []) none (at 13 22)
+    -- "*20,001 lb": 354 metres too
+    ∷ row (flammable 13 (propane 20_001) 3 0 not-given 0 22 ∷ []) none (at 13 22)
     ∷ []
 
 -- what is said of a register: what its call answers, the answer of each card, the area of each pool
@@ -215,7 +214,7 @@ defined r =
 
 -- all that the rows compute with
 unfoldable pub computed : Unit {0}
-unfolding strung twoBytes fourBytes outcomeOf cardsOf cardsFrom headerOf badLength badVersion badCount badBuffer leadersOf leadersFrom leadersAfter answerOf fieldsOf badArea badHeat badNumber badPounds badWall blank boundsOf flammableOf groundOf heldOf meaningOf openOf shapeOf signed stateOf substanceOf tenthsOf toxicMeaning factorsOf toxicOf b1 b2 b3 b4 badPercent highest linesOf lowest solutionOf firstAtLeast among lookUp blastReading isFlammable rowOf entryAt quantities table13 table1 table2 table3 table4 endpoints5 endpoints6 endpoints7 endpoints8 rates5 rates6 rates7 rates8 table5 table6 table7 table8 table9 table10 table11 table12 answered apart byRange byRow closest closestColumn closestFrom closestRow distance fromColumn holding inUse larger largest lastOf markOf past ratioBelow smaller thousandths readIn readingOf tables columnOf planOf poolOf tableOf vaporOf atMostTenMinutes dikedArea poolRate
+unfolding strung twoBytes fourBytes outcomeOf cardsOf cardsFrom headerOf badLength badVersion badCount badBuffer leadersOf leadersFrom leadersAfter answerOf fieldsOf badArea badHeat badNumber badPounds badWall blank boundsOf flammableOf groundOf heldOf meaningOf openOf shapeOf signed stateOf substanceOf tenthsOf toxicMeaning factorsOf toxicOf b1 b2 b3 b4 badPercent highest linesOf lowest solutionOf among lookUp isFlammable heatOf firstFrom metresOf ringOf c1 table1 table2 table3 table4 endpoints5 endpoints6 endpoints7 endpoints8 rates5 rates6 rates7 rates8 table5 table6 table7 table8 table9 table10 table11 table12 answered apart byRange byRow closest closestColumn closestFrom closestRow distance fromColumn holding inUse larger largest lastOf markOf past ratioBelow smaller thousandths readIn readingOf tables columnOf planOf poolOf tableOf vaporOf atMostTenMinutes dikedArea poolRate
 computed = tt
 
 -- Every starred case of document 01.

@@ -23,7 +23,7 @@ unfoldable pub allLong : {A : Type 0} → ℕ → List (List A) → Bool
 allLong width [] = true
 allLong width (row ∷ rest) = both (eqb (length row) width) (allLong width rest)
 
-pub long-at : {A : Type 0} (width : ℕ) (rows : List (List A)) → allLong width rows ≡ true → (i : ℕ) → i < length rows
+long-at : {A : Type 0} (width : ℕ) (rows : List (List A)) → allLong width rows ≡ true → (i : ℕ) → i < length rows
     → length (getD rows i []) ≡ width
 unfolding allLong
 long-at width [] e i h = absurd (not-suc-le-zero h)

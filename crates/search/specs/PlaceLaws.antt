@@ -1,40 +1,20 @@
 -- What callers use of looking a number up instead of its text. Each holds of any list.
 -- Assumes nothing.
-use Prim.Native.Nat.{ℕ, zero, suc, zero-le, suc-le-suc}
+use Prim.Native.Nat.{ℕ, zero, suc}
 use native.Mathlib.Omega.{arith}
 use mathlib.Core.Path.{_≡_, refl, ap, sym, _∙_}
 use mathlib.Core.List.{List, [], _∷_, _++_, map}
 use mathlib.Core.Bool.{Bool, true, false, not}
-use lib.Dec.{ltb, eqb, leb·suc-suc}
-use lib.ListN.{length, getD}
-use borrow.Author.Tests.{eqb-true, lt-ltb, not-true}
+use lib.Dec.{eqb}
+use lib.ListN.{getD}
+use borrow.Author.Tests.{eqb-true, not-true}
 use Rattle.search.specs.Laws.{clash, both-true}
-use Rattle.search.specs.Places.{placeOf, either, among, every, lookUp}
+use Rattle.search.specs.Places.{either, among, every, lookUp}
 
 -- where none of two tests passes, each fails
 pub neither : (s t : Bool) → either s t ≡ false → (s ≡ false) × (t ≡ false)
 neither true t e = clash (cc)
 neither false t e = (refl, e)
-
--- it lies within the list exactly where x is one of the entries
-pub place-among : (x : ℕ) (xs : List ℕ) → ltb (placeOf x xs) (length xs) ≡ among x xs
-unfolding placeOf among
-place-among x [] = refl
-place-among x (a ∷ rest) = go (eqb x a) (place-among x rest)
-  where
-    go : (t : Bool) → ltb (placeOf x rest) (length rest) ≡ among x rest → ltb (elim t as (λ _. ℕ) [ true ↦ 0 | false ↦ suc (placeOf x rest) ]) (suc (length rest)) ≡ either t (among x rest)
-    go true ih = lt-ltb 0 (suc (length rest)) (suc-le-suc zero-le)
-    go false ih = leb·suc-suc (suc (placeOf x rest)) (length rest) ∙ ih
-
--- and at its end where x is none of them
-pub place-none : (x : ℕ) (xs : List ℕ) → among x xs ≡ false → placeOf x xs ≡ length xs
-unfolding placeOf among
-place-none x [] e = refl
-place-none x (a ∷ rest) e = go (eqb x a) (place-none x rest) e
-  where
-    go : (t : Bool) → (among x rest ≡ false → placeOf x rest ≡ length rest) → either t (among x rest) ≡ false → (elim t as (λ _. ℕ) [ true ↦ 0 | false ↦ suc (placeOf x rest) ]) ≡ suc (length rest)
-    go true ih q = let z : _≡_ {A = ℕ} 0 1 = cc in absurd (omega arith)
-    go false ih q = ap suc (ih q)
 
 -- x is in neither of two lists that together do not have it
 pub among-apart : (x : ℕ) (xs ys : List ℕ) → among x (xs ++ ys) ≡ false → (among x xs ≡ false) × (among x ys ≡ false)
@@ -73,16 +53,6 @@ among-each ok x (a ∷ rest) all e = go (eqb x a) refl (among-each ok x rest (ha
     go false p ih q = ih q
 
 module _ {A B : Type 0} (key : A → ℕ) (value : A → B) (x : ℕ) where
-  -- the value of the line that stands at the key's place
-  pub look-place : (lines : List A) (other : B) → getD (map value lines) (placeOf x (map key lines)) other ≡ lookUp key value x lines other
-  unfolding placeOf lookUp
-  look-place [] other = refl
-  look-place (a ∷ rest) other = go (eqb x (key a)) (look-place rest other)
-    where
-      go : (t : Bool) → getD (map value rest) (placeOf x (map key rest)) other ≡ lookUp key value x rest other → getD (value a ∷ map value rest) (elim t as (λ _. ℕ) [ true ↦ 0 | false ↦ suc (placeOf x (map key rest)) ]) other ≡ (elim t as (λ _. B) [ true ↦ value a | false ↦ lookUp key value x rest other ])
-      go true ih = refl
-      go false ih = ih
-
   -- no line has the key
   pub look-none : (lines : List A) (other : B) → among x (map key lines) ≡ false → lookUp key value x lines other ≡ other
   unfolding among lookUp

@@ -1,16 +1,10 @@
--- A number looked up in a list: the place where it stands, whether it stands there at all, and the line of a printed table
--- that has it.
+-- A number looked up in a list: whether it stands there, and the line of a printed table that has it.
 -- Assumes nothing.
-use Prim.Native.Nat.{ℕ, zero, suc}
+use Prim.Native.Nat.{ℕ}
 use mathlib.Core.List.{List, [], _∷_}
 use mathlib.Core.Bool.{Bool, true, false}
 use lib.Dec.{eqb}
 use Rattle.search.specs.Rising.{both}
-
--- the place, counted from 0, of the first entry that is x; the length where there is none
-unfoldable pub placeOf : ℕ → List ℕ → ℕ
-placeOf x [] = 0
-placeOf x (a ∷ rest) = elim (eqb x a) [ true ↦ 0 | false ↦ suc (placeOf x rest) ]
 
 -- one of two tests passes
 abbrev pub either : Bool → Bool → Bool

@@ -1,4 +1,4 @@
-// The one search of the register: cut points and quantities are found by it. A substance is found by a `match` on its number.
+// The one search of the register: cut points and the rates of rows are found by it. A substance is found by a `match` on its number.
 ghost use mathlib.Core.Path.{_≡_};
 ghost use Rattle.search.specs.Rising.{firstAtLeast};
 
