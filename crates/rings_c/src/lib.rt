@@ -1,6 +1,6 @@
 // The register behind a C interface: a call that answers it and one that tells the leaders after its first cards, whose result and
-// two farthest cards are words; two that read it from comma lines and write it as such, each with one word beside its result; and one
-// that tells a card's likely scenario, by three words.
+// two farthest cards are words; two that read it from comma lines and write it as such, each with one word beside its result; one
+// that tells a card's likely scenario, by three words; and one that tells whether a stored answer is old.
 ghost use mathlib.Core.Path.{_≡_};
 ghost use lib.ListN.{length};
 ghost use Rattle.card.specs.declared.Class.the-variants.{Toxic, Flammable};
@@ -8,7 +8,8 @@ ghost use Rattle.cards.specs.Register.{outcomeOf, bufferOf};
 ghost use Rattle.prefix.specs.Prefix.{prefixOf};
 ghost use Rattle.comma.specs.Text.{readingOf, readInto};
 ghost use Rattle.write_lines.specs.Writing.{writingOf, writeInto};
-ghost use Rattle.words.specs.Words.{codeOf, wordAfter, conversionCode, conversionAt};
+ghost use Rattle.words.specs.Words.{codeOf, wordAfter, conversionCode, conversionAt, flagOf};
+ghost use Rattle.encode.specs.Bytes.{isOld};
 ghost use Rattle.likely_scenario.specs.LikelyScenario.{likelyOf};
 ghost use Rattle.likely_words.specs.LikelyWords.{likelyCode, tableAfter, foundAfter, hundredthsAfter};
 
@@ -88,4 +89,12 @@ pub extern "C" fn rings_likely(
 {
     let answer = likely_scenario::likely_of(card, rate, minutes);
     likely_words::tell_likely(answer, table, found, hundredths)
+}
+
+// Tells whether a stored answer, its sixteen bytes, is old: 1 where it was read off Table 13, else 0.
+#[no_mangle]
+pub extern "C" fn rings_is_old(answer: &[u8; 16]) -> u64
+    ensures { λ r. ⌜ r ≡ flagOf (isOld (now (answer .entry))) ⌝ }
+{
+    if encode::is_old(answer) { 1 } else { 0 }
 }

@@ -1,6 +1,7 @@
 -- The words of the C interface: what a call returns, and what it leaves in the words beside its result.
 -- Assumes nothing.
 use Prim.Native.Nat.{ℕ, _+_, _*_}
+use mathlib.Core.Bool.{Bool, true, false}
 use Rattle.refusals.specs.declared.Refusal.{Refusal}
 use Rattle.refusals.specs.Numbers.{numberOf}
 use Rattle.card.specs.declared.Class.{Class}
@@ -47,3 +48,8 @@ conversionCode (converted.Refused r place) = numberOf r
 unfoldable pub conversionAt : Converted → ℕ
 conversionAt (converted.Bytes n) = n
 conversionAt (converted.Refused r place) = place
+
+-- what a call that tells whether something is so returns
+abbrev pub flagOf : Bool → ℕ
+flagOf false = 0
+flagOf true = 1
