@@ -1,7 +1,7 @@
 /*
- * The ring register: worst-case distances of a register of cards, read from the tables of the EPA's guidance, registers
- * from comma lines and back, and the likely distance of a card at a rate that is supplied. Five calls, proved in
- * crates/rings_c; link target/staticlib/librings_c.a (written by `rt staticlib rings_c`).
+ * The ring register: worst-case distances of a register of cards, by the tables and Equation C-1 of the EPA's guidance,
+ * registers from comma lines and back, the likely distance of a card at a rate that is supplied, and whether a stored answer
+ * is old. Six calls, proved in crates/rings_c; link target/staticlib/librings_c.a (written by `rt staticlib rings_c`).
  */
 #ifndef RINGS_H
 #define RINGS_H
@@ -50,10 +50,10 @@ enum rings_refusal {
     RINGS_NUMBER = 5,         /* a card number is zero or not above the last */
     RINGS_FORM = 6,           /* bytes 0 to 3 are unlisted, or a must-be-zero field is filled */
     RINGS_UNLISTED = 7,       /* the CAS number is not listed for the kind, or in state 5 not in Exhibit B-3 */
-    RINGS_QUANTITY = 8,       /* pounds out of range */
+    RINGS_QUANTITY = 8,       /* pounds not 1 to 10,000,000, for either kind */
     RINGS_AREA = 9,           /* area out of range */
     RINGS_MISMATCH = 10,      /* state, substance and containment do not go together, or the exhibit has no data */
-    RINGS_BEYOND = 11,        /* beyond the table */
+    RINGS_BEYOND = 11,        /* beyond the table; never of a flammable card, which reads none */
     RINGS_LINE = 12,          /* a line is not eleven well-formed fields, or has over 200 bytes */
     RINGS_ROOM = 13,          /* the buffer is too small for what has to be written, or there are over 2,000 lines */
     RINGS_WALL = 14,          /* wall out of range */
@@ -80,7 +80,8 @@ enum rings_found {
  * register_len   its length in bytes; no length is too long or too short to be handed in.
  * answers_ptr    the answer buffer's first byte. A card's answer is 16 bytes, in the order of the cards, each number
  *                big-endian: card number 4, route 1, table 1, thousandths of a pound per minute 8, hundredths of a
- *                mile 2. Bytes beyond the last answer are left alone.
+ *                mile 2. Route 3 is a blast, whose table and rate are 0: its distance comes from Equation C-1. Bytes
+ *                beyond the last answer are left alone.
  * answers_len    the buffer's length in bytes: 16 x cards, or more.
  * toxic          set to the farthest toxic card: 0 for none, else card number x 65,536 + hundredths of a mile.
  * flammable      the same of the farthest flammable card.
@@ -183,6 +184,18 @@ uint64_t rings_write_lines(const uint8_t *register_ptr, size_t register_len,
  */
 uint64_t rings_likely(const uint8_t *card, uint64_t rate, uint32_t minutes,
                       uint64_t *table, uint64_t *found, double *hundredths);
+
+/*
+ * Tells whether a stored answer is old. Blasts were once read from Table 13, which Equation C-1 has replaced; no answer that
+ * rings_answer gives has that table any more. An old answer is to be asked for anew.
+ *
+ * answer         the first of the answer's 16 bytes, as rings_answer wrote them; they are only read.
+ *
+ * Returns 1 if the answer is old, which is exactly if its table, byte 5, is 13; else 0. No other byte counts.
+ *
+ * The pointer may not be null and is not kept after the call, which holds no state: threads may call at once.
+ */
+uint64_t rings_is_old(const uint8_t *answer);
 
 #ifdef __cplusplus
 }

@@ -1,9 +1,10 @@
 #!/usr/bin/env bash
 # Compiles the C programs against the proved archive. What the example prints is compared with the listings and the leaders,
-# the comma lines of the examples are read into their registers and written from them, and likely distances are found.
+# the comma lines of the examples are read into their registers and written from them, likely distances are found, and old
+# answers are told.
 set -euo pipefail
 cd "$(dirname "$0")/.."
-for program in example lines likely; do
+for program in example lines likely old; do
     gcc -std=c11 -Wall -Wextra -Werror -O2 -Ic "c/$program.c" target/staticlib/librings_c.a -o "target/c-$program"
 done
 
@@ -102,3 +103,22 @@ fails 2 target/c-likely 500000 4294967296 <<<"$chlorine"
 fails 2 target/c-likely 500000 10 <examples
 fails 2 target/c-likely
 echo "the C program finds the likely distances of $(ls examples/*.query | wc -l) examples as stored"
+
+# a stored answer is old if its table is 13, and under no other: the card numbers here are the tables, and 13 is in other places
+target/c-old <examples/stored.answers | diff - examples/stored.old
+answer() {
+    printf "$(printf '\\x%02x' 0 0 0 "$1" 13 "$1" 0 0 0 0 0 0 0 13 0 13)"
+}
+for table in {0..255}; do answer "$table"; done >target/c-answers
+target/c-old <target/c-answers | diff - <(for table in {0..255}; do echo "$table current"; done | sed 's/^13 .*/13 old/')
+target/c-old </dev/null | diff - /dev/null
+
+# an answer that is cut short is said with status 2, and so are errors
+fails 2 target/c-old < <(head -c 15 examples/stored.answers)
+test -s target/c-error
+fails 2 target/c-old <examples
+status=0
+target/c-old <examples/stored.answers >/dev/full 2>target/c-error || status=$?
+test "$status" = 2
+test -s target/c-error
+echo "the C program tells old answers from those of the equation"

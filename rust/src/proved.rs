@@ -1,6 +1,6 @@
 //! The proved library, called through its C interface.
 
-use crate::reference::{Accepted, Farthest, Found, Likely, Refused, CARD_LEN};
+use crate::reference::{Accepted, Farthest, Found, Likely, Refused, ANSWER_LEN, CARD_LEN};
 
 mod c {
     extern "C" {
@@ -41,6 +41,7 @@ mod c {
             found: *mut u64,
             hundredths: *mut f64,
         ) -> u64;
+        pub fn rings_is_old(answer: *const u8) -> u64;
     }
 }
 
@@ -125,6 +126,17 @@ pub fn likely_words(
 ) -> u64 {
     // SAFETY: as in `answer_words`. The card has the 24 bytes that the library reads.
     unsafe { c::rings_likely(card.as_ptr(), rate, minutes, table, found, hundredths) }
+}
+
+/// Whether a stored answer is old, as [`crate::reference::is_old`] tells it.
+#[allow(unsafe_code)]
+pub fn is_old(answer: &[u8; ANSWER_LEN]) -> bool {
+    // SAFETY: the answer has the sixteen bytes that the library reads, and it keeps no pointer after it returns.
+    match unsafe { c::rings_is_old(answer.as_ptr()) } {
+        0 => false,
+        1 => true,
+        other => panic!("the library has no {other} for whether an answer is old"),
+    }
 }
 
 /// An answer's three words: 0 and those of the farthest cards, or a refusal's number × 2^32 + its place.

@@ -1,9 +1,10 @@
 //! The second implementation: document 01, and document 02 as far as it has landed, in plain safe Rust.
 //!
-//! Bytes become cards ([`card`]), a toxic card a release ([`release`]), and a release or a quantity a distance, read
-//! from the printed tables ([`printed`]). A toxic card with a rate and a duration becomes a likely distance ([`likely`]).
-//! Comma lines become registers and registers comma lines ([`lines`]).
+//! Bytes become cards ([`card`]), a toxic card a release ([`release`]), and a release a distance, read from the printed
+//! tables ([`printed`]); a flammable card's distance comes from an equation ([`blast`]). A toxic card with a rate and a
+//! duration becomes a likely distance ([`likely`]). Comma lines become registers and registers comma lines ([`lines`]).
 
+mod blast;
 mod card;
 mod likely;
 mod lines;
@@ -33,6 +34,9 @@ pub const MAX_CARDS: usize = 2_000;
 pub const MAX_LEN: usize = HEADER_LEN + MAX_CARDS * CARD_LEN;
 
 const VERSION: u8 = 1;
+
+/// Where an answer has the number of its table.
+const TABLE_BYTE: usize = 5;
 
 /// What an accepted call gives beside the answer buffer.
 #[derive(Debug, Clone, Copy, PartialEq, Eq, Default)]
@@ -121,6 +125,11 @@ pub fn leaders_after(register: &[u8], cards: usize) -> Result<Accepted, Refused>
     Ok(Accepted { toxic: leader(first, Class::Toxic), flammable: leader(first, Class::Flammable) })
 }
 
+/// Whether a stored answer is old: a blast that was still read from Table 13. No other of its bytes counts.
+pub fn is_old(answer: &[u8; ANSWER_LEN]) -> bool {
+    answer[TABLE_BYTE] == blast::RETIRED_TABLE
+}
+
 /// The text that the listing program prints for a register.
 pub fn listing(register: &[u8]) -> String {
     if register.len() > MAX_LEN {
@@ -171,7 +180,7 @@ impl Answer {
         let mut bytes = [0; ANSWER_LEN];
         bytes[..4].copy_from_slice(&self.number.to_be_bytes());
         bytes[4] = self.route;
-        bytes[5] = self.table;
+        bytes[TABLE_BYTE] = self.table;
         bytes[6..14].copy_from_slice(&self.rate.thousandths().to_be_bytes());
         bytes[14..].copy_from_slice(&self.miles.hundredths().to_be_bytes());
         bytes
@@ -209,9 +218,9 @@ fn answer_of(card: &Card, printed: &Printed) -> Result<Answer, Fault> {
             number: card.number,
             class: Class::Flammable,
             route: release::Route::Blast as u8,
-            table: printed::BLAST_TABLE,
+            table: blast::NO_TABLE,
             rate: PoundsPerMinute::NONE,
-            miles: printed.blast_distance(substance, *pounds).ok_or(Fault::Table)?,
+            miles: blast::ring(substance, *pounds).miles(),
         }),
     }
 }

@@ -1,5 +1,7 @@
-//! Registers made from a seed, with quantities that fall on and around the edges of the printed tables, and texts.
+//! Registers made from a seed, with quantities that fall on and around the edges of the printed tables and the steps of
+//! blasts, and texts.
 
+pub mod blasts;
 pub mod lines;
 
 use crate::reference::printed::{printed, Factor, LiquidFactors, Phase, Plume, Solute, Toxic};
@@ -180,6 +182,18 @@ pub fn cards_with_sheds(rng: &mut Rng, count: usize) -> Vec<Card> {
     cards
 }
 
+/// Cards as [`sound_cards`] makes them, most of them flammable and one of them at least.
+pub fn cards_with_blasts(rng: &mut Rng, count: usize) -> Vec<Card> {
+    let mut cards = sound_cards(rng, count);
+    let certain = rng.below(count as u64) as usize;
+    for (place, card) in cards.iter_mut().enumerate() {
+        if place == certain || !rng.one_in(4) {
+            *card = flammable_card(rng, card.number);
+        }
+    }
+    cards
+}
+
 /// From a card's number to the next card's: mostly 1, sometimes far.
 fn step(rng: &mut Rng) -> u32 {
     if rng.one_in(8) {
@@ -190,12 +204,8 @@ fn step(rng: &mut Rng) -> u32 {
 }
 
 fn sound_card(rng: &mut Rng, number: u32) -> Card {
-    let printed = printed();
     if rng.one_in(5) {
-        let cas = rng.pick(printed.flammables()).cas;
-        let quantity = *rng.pick(printed.quantities());
-        let pounds = if rng.one_in(4) { rng.any_size(2_000_000) } else { rng.near(quantity, 2_000_000) };
-        return Card { kind: 2, cas, pounds, number, ..Card::default() };
+        return flammable_card(rng, number);
     }
     if rng.one_in(6) {
         return solution_card(rng, number);
@@ -208,6 +218,11 @@ fn sound_card(rng: &mut Rng, number: u32) -> Card {
         Phase::Liquid(factors) => liquid_card(rng, frame, toxic, factors),
         Phase::Solution { .. } => unreachable!("B-1 and B-2 have no solution"),
     }
+}
+
+fn flammable_card(rng: &mut Rng, number: u32) -> Card {
+    let (cas, pounds) = blasts::any_quantity(rng);
+    Card { kind: 2, cas, pounds, number, ..Card::default() }
 }
 
 /// A sound card in a shed with doors, which about one in five is.

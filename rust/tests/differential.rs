@@ -3,9 +3,11 @@
 //! Every byte of the lent buffer, of the bytes around it and of the two farthest words is compared, on acceptance and
 //! on refusal. Then each register is written as comma lines, with the same care, and the lines of an accepted one are
 //! read back. The leaders after the first cards are compared in `prefixes`, on other registers made in the same ways,
-//! sheds with doors beside buildings in `sheds`, and likely scenarios, card by card, in `likely`.
+//! sheds with doors beside buildings in `sheds`, blasts at every step of their rings in `blasts`, and likely scenarios,
+//! card by card, in `likely`.
 //! Run with `cargo test --release --test differential -- --nocapture` to see the counts.
 
+mod blasts;
 mod lent;
 mod likely;
 mod prefixes;
@@ -41,7 +43,6 @@ fn the_proved_library_and_the_reference_agree() {
     sweep_toxics(&mut comparison);
     sweep_temperatures(&mut comparison);
     sweep_ranges(&mut comparison);
-    sweep_flammables(&mut comparison);
     sweep_solutions(&mut comparison);
     for _ in 0..RANDOM_REGISTERS {
         let (register, buffer_len) = random_case(&mut comparison.rng);
@@ -78,7 +79,8 @@ struct Comparison {
     accepted: usize,
     refused: Refusals,
     routes: [usize; 4],
-    tables: [usize; 14],
+    /// By table, and at 0 by Equation C-1.
+    tables: [usize; 13],
     /// Accepted toxic cards by containment.
     held: [usize; 4],
     solutions: Solutions,
@@ -93,7 +95,7 @@ impl Comparison {
             accepted: 0,
             refused: Refusals::default(),
             routes: [0; 4],
-            tables: [0; 14],
+            tables: [0; 13],
             held: [0; 4],
             solutions: Solutions::default(),
             lines: Lines::default(),
@@ -139,6 +141,8 @@ impl Comparison {
                     self.routes[usize::from(answer[4])] += 1;
                     self.tables[usize::from(answer[5])] += 1;
                     self.held[usize::from(card[3])] += usize::from(card[0] == 1);
+                    let answer = answer.try_into().expect("sixteen bytes");
+                    assert!(!reference::is_old(answer) && !proved::is_old(answer), "an old answer: {}", hex(answer));
                 }
             }
         }
@@ -154,12 +158,13 @@ impl Comparison {
         for (table, met) in self.tables.iter().enumerate().skip(1) {
             println!("answered from Table {table:2}: {met} cards");
         }
+        println!("answered by Equation C-1: {} cards", self.tables[0]);
         for (containment, met) in self.held.iter().enumerate() {
             println!("answered in containment {containment}: {met} toxic cards");
         }
         assert!(registers >= RANDOM_REGISTERS);
         assert!(self.accepted * 4 >= registers, "too few registers were accepted");
-        for met in self.routes[1..].iter().chain(&self.tables[1..]).chain(&self.held) {
+        for met in self.routes[1..].iter().chain(&self.tables).chain(&self.held) {
             assert!(*met >= LEAST_OF_EACH, "a case was met too seldom");
         }
         self.solutions.report();
@@ -396,18 +401,6 @@ fn sweep_ranges(comparison: &mut Comparison) {
     }
 }
 
-/// Every flammable substance at, below and above every printed quantity.
-fn sweep_flammables(comparison: &mut Comparison) {
-    for flammable in printed().flammables() {
-        for quantity in printed().quantities() {
-            for pounds in quantity - 1..=quantity + 1 {
-                let card = Card { kind: 2, cas: flammable.cas, pounds: pounds as u32, number: 1, ..Card::default() };
-                comparison.compare(&samples::register(&[card]), ANSWER_LEN);
-            }
-        }
-    }
-}
-
 /// Every substance of B-3 at, below and above every printed concentration, at concentrations of all sizes and at none, on
 /// both grounds, held in every way, at quantities of all sizes; and the toxic substances that B-3 lacks.
 fn sweep_solutions(comparison: &mut Comparison) {
@@ -491,6 +484,12 @@ fn random_case_of_solutions(rng: &mut Rng) -> (Vec<u8>, usize) {
 fn random_case_of_sheds(rng: &mut Rng) -> (Vec<u8>, usize) {
     let count = rng.between(1, 6) as usize;
     let cards = samples::cards_with_sheds(rng, count);
+    case_of(rng, cards)
+}
+
+fn random_case_of_blasts(rng: &mut Rng) -> (Vec<u8>, usize) {
+    let count = rng.between(1, 6) as usize;
+    let cards = samples::cards_with_blasts(rng, count);
     case_of(rng, cards)
 }
 
@@ -640,7 +639,8 @@ fn spoil_state(rng: &mut Rng, card: &mut Card) {
     }
 }
 
-/// A quantity that is on or past the end of what the card's table can hold.
+/// A quantity that is on or past the end of what the card's table can hold. A blast reads no table and stays sound: not even
+/// where Table 13 ended is it refused.
 fn beyond_the_table(rng: &mut Rng, card: Card) -> Card {
     if card.kind == 2 {
         let pounds = *rng.pick(&[2_000_000, 2_000_001, MAX_POUNDS]);

@@ -3,17 +3,17 @@
 //! A file that is not of the printed form is a mistake of this repository and not of a register, so it panics.
 
 use super::card::Ground;
-use super::units::{Concentration, Miles, Pounds, PoundsPerMinute};
+use super::units::{Concentration, Miles, PoundsPerMinute};
 use std::collections::{BTreeMap, HashSet};
 use std::ops::Range;
 use std::sync::LazyLock;
 
-/// The number of the table for blasts.
-pub(super) const BLAST_TABLE: u8 = 13;
-
 const NEAREST: Miles = Miles::from_hundredths(10);
 /// 25 miles, beyond which nothing is told apart.
 pub(super) const LIMIT: Miles = Miles::from_hundredths(2_500);
+
+/// No heat of combustion may be above this, in kilojoules per kilogram.
+const HIGHEST_HEAT: u64 = 150_000;
 
 /// The columns of Exhibits B-2 and B-3 that say how a plume spreads, in the worst case and in alternative ones.
 const PLUME_COLUMNS: [&str; 2] = ["worst_case_table", "alternative_case_table"];
@@ -68,7 +68,6 @@ pub struct Printed {
     toxics: Listed<Toxic>,
     solutes: Listed<Solute>,
     flammables: Listed<Flammable>,
-    quantities: Vec<u64>,
     worst_case: Tables,
     alternative: Tables,
 }
@@ -161,11 +160,12 @@ pub enum Plume {
     Dense,
 }
 
-/// A row of Table 13.
+/// A row of Exhibit C-1.
 pub struct Flammable {
     /// CAS number without hyphens.
     pub cas: u32,
-    by_quantity: Vec<Miles>,
+    /// HC, in kilojoules per kilogram.
+    pub heat_of_combustion: u64,
 }
 
 /// A table for toxic releases, by its number in the worst case; a substance's own table has a column for each ground.
@@ -243,11 +243,6 @@ impl Printed {
         &self.flammables.substances
     }
 
-    /// The quantities of Table 13, in pounds.
-    pub fn quantities(&self) -> &[u64] {
-        &self.quantities
-    }
-
     /// Tables 1 to 12.
     pub fn worst_case(&self) -> &Tables {
         &self.worst_case
@@ -258,22 +253,14 @@ impl Printed {
         &self.alternative
     }
 
-    /// Table 13 at the smallest printed quantity that is at least the card's.
-    pub(super) fn blast_distance(&self, substance: &Flammable, pounds: Pounds) -> Option<Miles> {
-        let column = self.quantities.partition_point(|&quantity| quantity < pounds.whole());
-        substance.by_quantity.get(column).copied()
-    }
-
     fn read() -> Self {
         let worst_case = WORST_CASE.map(Sheet::cut);
         let alternative = ALTERNATIVE.map(Sheet::cut);
-        let blast = Sheet::cut(include_str!("../../../data/table13.tsv"));
         let endpoints = shared_endpoints(worst_case[DENSE].iter().chain(&alternative[DENSE]));
         Printed {
             toxics: read_toxics(&endpoints),
             solutes: read_solutes(&endpoints),
-            flammables: read_flammables(&blast),
-            quantities: rising(blast.header[2..].iter().map(|cell| decimal(cell, 0)).collect()),
+            flammables: read_flammables(),
             worst_case: Tables::read(&worst_case),
             alternative: Tables::read(&alternative),
         }
@@ -459,10 +446,11 @@ impl RateTable {
 }
 
 impl Flammable {
-    fn read(row: &[&str]) -> Self {
-        let by_quantity: Vec<Miles> = row[2..].iter().map(|cell| distance(cell)).collect();
-        assert!(by_quantity.is_sorted(), "the entries of Table 13 never fall along a row");
-        Flammable { cas: cas_number(row[0]), by_quantity }
+    /// Every heat is printed whole, so none has to be rounded up.
+    fn read(sheet: &Sheet, row: &[&str]) -> Self {
+        let heat_of_combustion = decimal(sheet.cell(row, "heat_of_combustion_kj_per_kg"), 0);
+        assert!((1..=HIGHEST_HEAT).contains(&heat_of_combustion), "a heat of {heat_of_combustion}");
+        Flammable { cas: cas_number(sheet.cell(row, "cas")), heat_of_combustion }
     }
 }
 
@@ -582,8 +570,9 @@ fn read_solutes(endpoints: &[u64]) -> Listed<Solute> {
     Listed::new(solutes.collect(), |solute| solute.cas)
 }
 
-fn read_flammables(blast: &Sheet) -> Listed<Flammable> {
-    let rows = blast.rows.iter().map(|row| Flammable::read(row));
+fn read_flammables() -> Listed<Flammable> {
+    let c1 = Sheet::cut(include_str!("../../../data/c1.tsv"));
+    let rows = c1.rows.iter().map(|row| Flammable::read(&c1, row));
     Listed::new(rows.collect(), |flammable| flammable.cas)
 }
 

@@ -1,7 +1,9 @@
-//! Document 01's listing, refusals and cards to try, the solutions, the leaders and the sheds with doors of document 02,
-//! and the guidance's own examples.
+//! Document 01's listing, refusals and cards to try, the solutions, the leaders, the sheds with doors and the blasts of
+//! document 02, and the guidance's own examples.
 
-use super::{answer, leaders_after, listing, Accepted, Farthest, Refused, ANSWER_LEN, CARD_LEN, MAX_CARDS, MAX_LEN};
+use super::{
+    answer, is_old, leaders_after, listing, Accepted, Farthest, Refused, ANSWER_LEN, CARD_LEN, MAX_CARDS, MAX_LEN,
+};
 use crate::samples::{accepted_register, register, Card, Rng};
 
 const AMMONIA: u32 = 7_664_417;
@@ -13,6 +15,8 @@ const HYDROCHLORIC_ACID: u32 = 7_647_010;
 const NITRIC_ACID: u32 = 7_697_372;
 const OLEUM: u32 = 8_014_957;
 const SULFUR_DIOXIDE: u32 = 7_446_095;
+const ETHYL_NITRITE: u32 = 109_955;
+const HYDROGEN: u32 = 1_333_740;
 const PROPANE: u32 = 74_986;
 
 const RURAL: u8 = 1;
@@ -94,7 +98,7 @@ fn the_example_is_listed() {
     assert_eq!(example().len(), 79);
     assert_eq!(
         listing(&example()),
-        "11 1 11 250.000 1.50\n12 2 8 10.220 1.80\n13 3 13 0.000 0.20\nT 12 1.80\nF 13 0.20\n"
+        "11 1 11 250.000 1.50\n12 2 8 10.220 1.80\n13 3 0 0.000 0.18\nT 12 1.80\nF 13 0.18\n"
     );
 }
 
@@ -103,13 +107,13 @@ fn the_example_is_answered_and_the_bytes_beyond_stay() {
     let mut out = [0xa5; 50];
     let accepted = answer(&example(), &mut out).expect("an accepted register");
     let toxic = Some(Farthest { card: 12, miles: 180 });
-    let flammable = Some(Farthest { card: 13, miles: 20 });
+    let flammable = Some(Farthest { card: 13, miles: 18 });
     assert_eq!(accepted, Accepted { toxic, flammable });
     #[rustfmt::skip]
     let expected = [
         0, 0, 0, 11, 1, 11, 0, 0, 0, 0, 0, 3, 0xd0, 0x90, 0, 150,
         0, 0, 0, 12, 2, 8, 0, 0, 0, 0, 0, 0, 0x27, 0xec, 0, 180,
-        0, 0, 0, 13, 3, 13, 0, 0, 0, 0, 0, 0, 0, 0, 0, 20,
+        0, 0, 0, 13, 3, 0, 0, 0, 0, 0, 0, 0, 0, 0, 0, 18,
         0xa5, 0xa5,
     ];
     assert_eq!(out, expected);
@@ -123,7 +127,7 @@ fn a_listing_tells_refusals_and_long_inputs() {
     let second_lacks_pounds = [chlorine(RURAL, 1), numbered(chlorine(RURAL, 0), 2)];
     assert_eq!(listing(&register(&second_lacks_pounds)), "refused 8 at 1\n");
     let two_propanes = [flammable(PROPANE, 20_001), numbered(flammable(PROPANE, 20_001), 2)];
-    assert_eq!(listing(&register(&two_propanes)), "1 3 13 0.000 0.30\n2 3 13 0.000 0.30\nT none\nF 1 0.30\n");
+    assert_eq!(listing(&register(&two_propanes)), "1 3 0 0.000 0.22\n2 3 0 0.000 0.22\nT none\nF 1 0.22\n");
 }
 
 #[test]
@@ -248,19 +252,19 @@ fn the_leaders_are_kept_card_by_card() {
     assert_eq!(leaders(&rising, 0..=2), [[None, None], [Some((1, 300)), None], [Some((2, 340)), None]]);
     let falling = [chlorine(RURAL, 2_250), chlorine(RURAL, 2_249)];
     assert_eq!(leaders(&falling, 0..=2), [[None, None], [Some((1, 340)), None], [Some((1, 340)), None]]);
-    let propanes = [flammable(PROPANE, 20_000), flammable(PROPANE, 20_001)];
-    assert_eq!(leaders(&propanes, 0..=2), [[None, None], [None, Some((1, 20))], [None, Some((2, 30))]]);
+    let propanes = [flammable(PROPANE, 10_000), flammable(PROPANE, 20_000)];
+    assert_eq!(leaders(&propanes, 0..=2), [[None, None], [None, Some((1, 18))], [None, Some((2, 22))]]);
 }
 
 #[test]
 fn the_earlier_card_leads_on_a_tie() {
-    // 3.40 miles by two routes and tables, and 0.20 for two quantities.
+    // 3.40 miles by two routes and tables, and 0.22 for two quantities.
     let (gas, pool) = (chlorine(RURAL, 2_250), diked(bromine(), 100, 100));
     for cards in [[gas, pool, gas], [pool, gas, pool]] {
         assert_eq!(leaders(&cards, 1..=3), [[Some((1, 340)), None]; 3]);
     }
-    let propanes = [flammable(PROPANE, 10_000), flammable(PROPANE, 20_000)];
-    assert_eq!(leaders(&propanes, 1..=2), [[None, Some((1, 20))]; 2]);
+    let propanes = [flammable(PROPANE, 20_000), flammable(PROPANE, 20_001)];
+    assert_eq!(leaders(&propanes, 1..=2), [[None, Some((1, 22))]; 2]);
     // Overtaken by two that tie: the first of these.
     let overtaken = [chlorine(RURAL, 2_249), gas, pool];
     assert_eq!(leaders(&overtaken, 2..=3), [[Some((2, 340)), None]; 2]);
@@ -269,7 +273,7 @@ fn the_earlier_card_leads_on_a_tie() {
 #[test]
 fn a_class_leads_by_itself() {
     let between = [in_building(bromine(), 100), flammable(PROPANE, 20_001), chlorine(RURAL, 2_249)];
-    let (shed, propane, gas) = (Some((1, 40)), Some((2, 30)), Some((3, 300)));
+    let (shed, propane, gas) = (Some((1, 40)), Some((2, 22)), Some((3, 300)));
     assert_eq!(leaders(&between, 0..=3), [[None, None], [shed, None], [shed, propane], [gas, propane]]);
 }
 
@@ -326,10 +330,62 @@ fn bromine_to_try() {
 
 #[test]
 fn propane_to_try() {
-    assert_eq!(line(flammable(PROPANE, 20_000)), "3 13 0.000 0.20");
-    assert_eq!(line(flammable(PROPANE, 20_001)), "3 13 0.000 0.30");
-    assert_eq!(refusal_of(flammable(PROPANE, 2_000_000)), None);
-    assert_eq!(refusal_of(flammable(PROPANE, 2_000_001)), Some((11, 0)));
+    // 281 metres, and 354 on either side of what was a column of Table 13.
+    assert_eq!(line(flammable(PROPANE, 10_000)), "3 0 0.000 0.18");
+    assert_eq!(line(flammable(PROPANE, 20_000)), "3 0 0.000 0.22");
+    assert_eq!(line(flammable(PROPANE, 20_001)), "3 0 0.000 0.22");
+}
+
+#[test]
+fn a_ring_grows_by_the_equation_and_not_by_columns() {
+    // 354 metres are enough for 20,065 lb, and they are the last that 0.22 miles have.
+    assert_eq!(line(flammable(PROPANE, 20_065)), "3 0 0.000 0.22");
+    assert_eq!(line(flammable(PROPANE, 20_066)), "3 0 0.000 0.23");
+    // Ethyl nitrite meets the equation exactly at 245,245 lb, 595 metres; 0.37 miles end there, too.
+    assert_eq!(line(flammable(ETHYL_NITRITE, 245_245)), "3 0 0.000 0.37");
+    assert_eq!(line(flammable(ETHYL_NITRITE, 245_246)), "3 0 0.000 0.38");
+}
+
+#[test]
+fn a_blast_is_beyond_no_table() {
+    // Table 13 ended at 2,000,000 lb.
+    assert_eq!(line(flammable(PROPANE, 1)), "3 0 0.000 0.01");
+    assert_eq!(line(flammable(PROPANE, 2_000_000)), "3 0 0.000 1.03");
+    assert_eq!(line(flammable(PROPANE, 2_000_001)), "3 0 0.000 1.03");
+    assert_eq!(line(flammable(PROPANE, 10_000_000)), "3 0 0.000 1.75");
+    assert_eq!(line(flammable(HYDROGEN, 10_000_000)), "3 0 0.000 2.40");
+    for pounds in [0, 10_000_001, u32::MAX] {
+        assert_eq!(refusal_of(flammable(PROPANE, pounds)), Some((8, 0)));
+    }
+}
+
+#[test]
+fn a_flammable_substance_is_one_of_63() {
+    use super::printed::printed;
+    assert_eq!(printed().flammables().len(), 63);
+    for listed in printed().flammables() {
+        assert_eq!(refusal_of(flammable(listed.cas, 1)), None);
+        for cas in [listed.cas - 1, listed.cas + 1] {
+            let expected = if printed().flammable(cas).is_none() { Some((7, 0)) } else { None };
+            assert_eq!(refusal_of(flammable(cas, 1)), expected);
+        }
+    }
+    assert_eq!(refusal_of(flammable(CHLORINE, 1)), Some((7, 0)));
+}
+
+#[test]
+fn an_answer_is_old_by_its_table_alone() {
+    // Card 13 of the example, as it was answered from Table 13 and as it is answered now.
+    let stored = [0, 0, 0, 13, 3, 13, 0, 0, 0, 0, 0, 0, 0, 0, 0, 20];
+    let fresh = [0, 0, 0, 13, 3, 0, 0, 0, 0, 0, 0, 0, 0, 0, 0, 18];
+    assert_eq!([stored, fresh].map(|answer| is_old(&answer)), [true, false]);
+    for table in 0..=u8::MAX {
+        for filling in [0, 3, 13, 255] {
+            let mut answer = [filling; ANSWER_LEN];
+            answer[5] = table;
+            assert_eq!(is_old(&answer), table == 13);
+        }
+    }
 }
 
 #[test]
@@ -574,6 +630,6 @@ fn the_examples_of_the_guidance() {
     // Example 14: ethylene oxide.
     assert_eq!(line(toxic(ETHYLENE_OXIDE, 1, RURAL, 10_000)), "1 5 1000.000 3.60");
     // Examples 16 and 18: propane and ethylene.
-    assert_eq!(line(flammable(PROPANE, 50_000)), "3 13 0.000 0.30");
-    assert_eq!(line(flammable(ETHYLENE, 10_000)), "3 13 0.000 0.20");
+    assert_eq!(line(flammable(PROPANE, 50_000)), "3 0 0.000 0.30");
+    assert_eq!(line(flammable(ETHYLENE, 10_000)), "3 0 0.000 0.18");
 }

@@ -1,5 +1,5 @@
-//! The four units of the guidance, and the concentration of a solution. They never stand for one another, so each is a
-//! type of its own.
+//! The four units of the guidance, the metres of Equation C-1, and the concentration of a solution. They never stand for
+//! one another, so each is a type of its own.
 
 use std::fmt;
 
@@ -18,6 +18,10 @@ pub struct SquareFeet(u64);
 /// Miles, in hundredths.
 #[derive(Debug, Clone, Copy, PartialEq, Eq, PartialOrd, Ord)]
 pub struct Miles(u16);
+
+/// Whole metres.
+#[derive(Debug, Clone, Copy, PartialEq, Eq, PartialOrd, Ord)]
+pub struct Metres(u64);
 
 /// How much of a solution's weight is the substance, in tenths of a percent.
 #[derive(Debug, Clone, Copy, PartialEq, Eq, PartialOrd, Ord)]
@@ -67,6 +71,17 @@ impl Miles {
 
     pub const fn hundredths(self) -> u16 {
         self.0
+    }
+}
+
+impl Metres {
+    pub const fn new(metres: u64) -> Self {
+        Self(metres)
+    }
+
+    /// A mile has 1,609.344 metres; its hundredths are rounded up.
+    pub const fn miles(self) -> Miles {
+        Miles((self.0 * 100_000).div_ceil(1_609_344) as u16)
     }
 }
 
