@@ -551,7 +551,7 @@ def printed_c1(flammables):
     items = [(x["name"], f"heat {x['cas']} {x['heat']}") for x in flammables]
     return antt_file(
         "data/c1.tsv", "Exhibit C-1 as printed. Heats of combustion in whole kilojoules per kilogram.",
-        [LIST_IMPORT, printed_import("blast", ["HeatLine", "heat"])],
+        [LIST_IMPORT, printed_import("combustion", ["HeatLine", "heat"])],
         [antt_definition("Exhibit C-1, flammable substances, in the printed order: CAS number, heat of combustion", "c1", "HeatLine",
                          items)])
 
@@ -822,15 +822,15 @@ def heat_lines(flammables):
         rt_match("The heat of combustion of a flammable substance by its CAS number, in kilojoules per kilogram: Exhibit C-1, in the\n"
                  "// printed order; 0 for a substance that it does not list.",
                  "heat_of(cas: u32) -> u32", "r ≡ heatOf cas", "cas", [(x["name"], x["cas"], x["heat"]) for x in flammables], 0),
-    ], ["ghost use mathlib.Core.Path.{_≡_};", "ghost use Rattle.blast.specs.Blast.{heatOf};"])
+    ], ["ghost use mathlib.Core.Path.{_≡_};", "ghost use Rattle.combustion.specs.Heats.{heatOf};"])
 
 
 def heat_proof(flammables):
     return arms_proof(
-        "blast", "heat_of",
+        "combustion", "heat_of",
         ["use mathlib.Core.Path.{refl}", "use Rattle.search.specs.Arms.{arm}", "use Rattle.search.specs.Places.{lookUp}",
-         "use Rattle.blast.specs.PrintedC1.{c1}", "use Rattle.blast.specs.Blast.{heatOf}",
-         "use Rattle.blast.specs.Laws.{no-heat}"],
+         "use Rattle.combustion.specs.PrintedC1.{c1}", "use Rattle.combustion.specs.Heats.{heatOf}",
+         "use Rattle.combustion.specs.Laws.{no-heat}"],
         "heatOf lookUp c1", "heatOf", [x["cas"] for x in flammables], "no-heat _ (c .match .rest)")
 
 
@@ -870,9 +870,9 @@ def generated_files():
         "crates/likely_dense/src/tables.rt": likely_dense_columns(likely_dense),
         "crates/likely_tables/specs/PrintedChemical.antt": printed_chemical(likely_chemical),
         "crates/likely_tables/src/tables.rt": likely_chemical_arrays(likely_chemical),
-        "crates/blast/specs/PrintedC1.antt": printed_c1(flammables),
-        "crates/blast/src/tables.rt": heat_lines(flammables),
-        "crates/blast/proofs/tables/heat_of/Proof.antt": heat_proof(flammables),
+        "crates/combustion/specs/PrintedC1.antt": printed_c1(flammables),
+        "crates/combustion/src/tables.rt": heat_lines(flammables),
+        "crates/combustion/proofs/tables/heat_of/Proof.antt": heat_proof(flammables),
     }
 
 

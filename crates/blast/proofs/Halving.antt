@@ -1,13 +1,14 @@
--- Halving finds the least number of metres: what its two ends say of the numbers below the one and at the other, and that no product
--- that it makes is too large.
+-- Halving finds the least number of metres: what each step knows of the numbers before and behind, and that no product that it makes
+-- is too large.
 -- Assumes nothing.
-use Prim.Native.Nat.{ℕ, _+_, _*_, _≤_, _<_}
+use Prim.Native.Nat.{ℕ, _+_, _*_, _/_, _≤_, _<_}
 use native.Mathlib.Nat.{mul-le-mul}
 use native.Mathlib.Omega.{arith}
 use mathlib.Core.Path.{_≡_, ap, _∙_}
 use mir.Val.{Fits}
 use mir.Syntax.{w64}
-use Rattle.blast.specs.Blast.{heatOf, Enough, Least, metresOf, hundredthsOf, ringOf}
+use Rattle.combustion.specs.Heats.{heatOf}
+use Rattle.blast.specs.Blast.{Least, metresOf, hundredthsOf, ringOf}
 use Rattle.blast.specs.Laws.{cube-mono, only-least}
 
 -- the farthest that is looked at is enough for any quantity of four bytes at any heat
@@ -25,17 +26,35 @@ cube-fits d h = omega (arith, mul-le-mul (mul-le-mul h h) h)
 pub product-fits : (d : ℕ) → d ≤ 31_327 → Fits w64 (d * d * d * 102_960)
 product-fits d h = omega (arith, mul-le-mul (mul-le-mul h h) h)
 
--- what is not above a number that is too small is too small
-pub too-small : (need d next : ℕ) → next ≤ d + 1 → d * d * d * 102_960 < need → (e : ℕ) → e < next → e * e * e * 102_960 < need
-too-small need d next n h e l = let k : e ≤ d = omega arith in omega (arith, cube-mono k)
+-- what the walk knows: every number below `low` is too small, and `low + span` is enough
+abbrev pub Between : ℕ → ℕ → ℕ → Type 0
+Between need low span =
+    (low + span ≤ 31_327)
+    × (need ≤ (low + span) * (low + span) * (low + span) * 102_960)
+    × ((e : ℕ) → e < low → e * e * e * 102_960 < need)
 
--- where the two ends meet, they meet at the least
-pub met : (pounds heat low high : ℕ) → low ≤ high → high ≤ low → Enough pounds heat high → ((e : ℕ) → e < low → e * e * e * 102_960 < 4_913 * pounds * heat) → low ≡ metresOf pounds heat
-met pounds heat low high l h enough below =
-    let same : low ≡ high = omega arith in
+module _ (need low span d next : ℕ) (b : Between need low span) where
+  -- where a number in the middle is too small, so are those before it
+  pub too-small : next ≡ low + (span + 1) / 2 → next ≤ d + 1 → d * d * d * 102_960 < need → Between need next (span / 2)
+  too-small n l h =
+      let same : low + span ≡ next + span / 2 = omega arith in
+      (omega arith, omega (arith, b .1, ap (λ (x : ℕ). x * x * x) same), below)
+    where
+      below : (e : ℕ) → e < next → e * e * e * 102_960 < need
+      below e k = omega (arith, cube-mono {d = e} {e = d} (omega arith))
+
+  -- where it is enough, so are those behind it
+  pub large-enough : next ≡ low → d ≤ low + span / 2 → need ≤ d * d * d * 102_960 → Between need next (span / 2)
+  large-enough n l h =
+      (omega arith, omega (arith, cube-mono {d = d} {e = next + span / 2} (omega arith)), λ e k. b .2 e (omega arith))
+
+-- where the span is gone, the least is found
+pub met : (pounds heat low span : ℕ) → span ≤ 0 → Between (4_913 * pounds * heat) low span → low ≡ metresOf pounds heat
+met pounds heat low span h b =
+    let same : low + span ≡ low = omega arith in
     only-least (record {
-      enough = omega (arith, enough, ap (λ (d : ℕ). d * d * d) same);
-      no-smaller = λ e k q. absurd (omega (arith, q, below e k));
+      enough = omega (arith, b .1, ap (λ (x : ℕ). x * x * x) same);
+      no-smaller = λ e k q. absurd (omega (arith, q, b .2 e k));
     })
 
 -- the distance of the metres that are found

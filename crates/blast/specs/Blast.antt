@@ -1,30 +1,11 @@
 -- The ring of a blast, by Equation C-1 (document 02, A7, in whose words each definition stands).
 -- Assumes nothing.
 use Prim.Native.Nat.{ℕ, zero, suc, _*_, _≤_, _<_}
-use mathlib.Core.List.{map}
 use mathlib.Core.Bool.{Bool, true, false}
 use lib.Dec.{leb}
 use Rattle.units.specs.declared.Miles.{Miles}
-use Rattle.search.specs.Places.{among, lookUp}
+use Rattle.combustion.specs.Heats.{heatOf}
 use Rattle.release.specs.Rates.{ceilDiv}
-use Rattle.blast.specs.Printed.{HeatLine, heat}
-use Rattle.blast.specs.PrintedC1.{c1}
-
--- the CAS number of a line
-abbrev pub casOf : HeatLine → ℕ
-casOf (heat cas hc) = cas
-
--- and its heat of combustion
-abbrev pub heatIn : HeatLine → ℕ
-heatIn (heat cas hc) = hc
-
--- document 01's flammables, "those of Table 13": the 63 substances of Exhibit C-1
-unfoldable pub isFlammable : ℕ → Bool
-isFlammable cas = among cas (map casOf c1)
-
--- "HC is the heat of combustion from Exhibit C-1 in whole kilojoules per kilogram": 0 for a substance that it does not list
-unfoldable pub heatOf : ℕ → ℕ
-heatOf cas = lookUp casOf heatIn cas c1 0
 
 -- "D × D × D × 102,960 at least 4,913 × pounds × HC"
 abbrev pub Enough : ℕ → ℕ → ℕ → Type 0

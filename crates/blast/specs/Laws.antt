@@ -2,48 +2,15 @@
 -- least number of metres that satisfies the inequality, and the only such number, is `exactly-one`.
 -- Assumes nothing.
 use Prim.Native.Nat.{ℕ, zero, suc, _+_, _*_, _≤_, _<_, zero-le, suc-le-suc}
-use native.Mathlib.Nat.{le-refl, le-trans, mul-one, mul-le-mul, mul-le-mul-left, mul-le-mul-right}
+use native.Mathlib.Nat.{le-trans, mul-le-mul, mul-le-mul-left, mul-le-mul-right}
 use native.Mathlib.Omega.{arith}
-use mathlib.Core.Path.{_≡_, refl, ap, sym, _∙_}
-use mathlib.Core.List.{List, [], _∷_, map}
+use mathlib.Core.Path.{_≡_, refl, ap, _∙_}
 use mathlib.Core.Bool.{Bool, true, false}
 use mathlib.Core.Logic.{⊎-elim}
-use lib.Dec.{leb, ltb}
-use borrow.Author.Tests.{leb-true, leb-false, le-leb, ltb-true}
-use Rattle.search.specs.Laws.{lt-or-ge, clash}
-use Rattle.search.specs.PlaceLaws.{among-each, look-each, look-none, look-listed}
-use Rattle.search.specs.Arms.{Missed, missed}
-use Rattle.blast.specs.PrintedC1.{c1}
-use Rattle.blast.specs.Blast.{casOf, heatIn, isFlammable, heatOf, Enough, Least, enough, firstFrom, metresOf, hundredthsOf, ringOf}
-
--- ---- Exhibit C-1
-
--- a CAS number that is listed has at most eight digits
-pub listed-below : (cas : ℕ) → isFlammable cas ≡ true → cas < 100_000_000
-unfolding isFlammable c1
-listed-below cas e =
-    ltb-true cas 100_000_000 (among-each (λ c. ltb c 100_000_000) cas (map casOf c1) refl e)
-
--- HC is "at most 150,000": one test over the whole exhibit
-pub heat-within : (cas : ℕ) → heatOf cas ≤ 150_000
-unfolding heatOf c1
-heat-within cas = leb-true (heatOf cas) 150_000 (look-each casOf heatIn cas (λ hc. leb hc 150_000) c1 0 refl refl)
-
--- a number that no line has is no substance's, and has no heat
-pub no-heat : (cas : ℕ) → Missed cas (map casOf c1) → 0 ≡ heatOf cas
-unfolding heatOf
-no-heat cas m = sym (look-none casOf heatIn cas c1 0 (missed cas (map casOf c1) m))
-
--- a substance has a heat exactly where it is listed
-pub listed : (cas : ℕ) → ltb 0 (heatOf cas) ≡ isFlammable cas
-unfolding heatOf isFlammable c1
-listed cas = go (isFlammable cas) refl
-  where
-    go : (b : Bool) → isFlammable cas ≡ b → ltb 0 (heatOf cas) ≡ b
-    go true e = look-listed casOf heatIn cas (λ hc. ltb 0 hc) c1 0 e refl
-    go false e = ap (ltb 0) (look-none casOf heatIn cas c1 0 e)
-
--- ---- the least number of metres
+use borrow.Author.Tests.{leb-true, leb-false, le-leb}
+use Rattle.search.specs.Laws.{lt-or-ge}
+use Rattle.combustion.specs.Heats.{heatOf}
+use Rattle.blast.specs.Blast.{Enough, Least, enough, firstFrom, metresOf, hundredthsOf, ringOf}
 
 -- the test passes at what is found, where it passes at the last number that is looked at
 first-passes : (test : ℕ → Bool) (further d : ℕ) → test (d + further) ≡ true → test (firstFrom test further d) ≡ true

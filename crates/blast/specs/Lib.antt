@@ -1,4 +1,2 @@
-pub mod Printed
-pub mod PrintedC1
 pub mod Blast
 pub mod Laws

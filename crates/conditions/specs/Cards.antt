@@ -15,7 +15,7 @@ use Rattle.units.specs.declared.Reading.the-variants as reading
 use Rattle.exhibits.specs.declared.Toxic.{Toxic}
 use Rattle.solutions.specs.Solutions.{badPercent}
 use Rattle.dispersion.specs.Tables.{readingOf}
-use Rattle.blast.specs.Blast.{isFlammable}
+use Rattle.combustion.specs.Heats.{isFlammable}
 use Rattle.which_table.specs.declared.State.{State}
 use Rattle.scenario.specs.declared.ToxicCard.{ToxicCard}
 use Rattle.scenario.specs.declared.Planned.{Planned}

@@ -21,8 +21,8 @@ use Rattle.dispersion.specs.declared.Ground.{Ground}
 use Rattle.dispersion.specs.declared.Ground.the-variants.{Rural, Urban}
 use Rattle.rules.specs.Rules.{distance, inUse, larger, closest, closestColumn, fromColumn, thousandths, lastOf, past, markOf, mileLimit}
 use Rattle.dispersion.specs.Tables.{Table, ranges, grid, lines, unprinted, tables, rateOf, entryOf}
-use Rattle.blast.specs.Blast.{casOf}
-use Rattle.blast.specs.PrintedC1.{c1}
+use Rattle.combustion.specs.Heats.{casOf}
+use Rattle.combustion.specs.PrintedC1.{c1}
 use Rattle.release.specs.declared.Containment.{Containment}
 use Rattle.release.specs.declared.Containment.the-variants.{Open, Dike, Building, ShedWithDoors}
 use Rattle.which_table.specs.declared.State.{State}

@@ -14,7 +14,7 @@ use Rattle.solutions.specs.Solutions.{solutionOf}
 use Rattle.solutions.specs.SolutionLaws.{solution-within}
 use Rattle.scenario.specs.declared.Tenths.{Tenths}
 use Rattle.scenario.specs.Plan.{Limits}
-use Rattle.blast.specs.Blast.{isFlammable}
+use Rattle.combustion.specs.Heats.{isFlammable}
 use Rattle.fields.specs.declared.Fields.{Fields}
 use Rattle.refusals.specs.declared.Refusal.{Refusal}
 use Rattle.refusals.specs.declared.Refusal.the-variants as refusal

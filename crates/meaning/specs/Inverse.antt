@@ -8,7 +8,7 @@ use Rattle.exhibits.specs.declared.Toxic.{Toxic}
 use Rattle.scenario.specs.declared.Tenths.{Tenths}
 use Rattle.scenario.specs.declared.ToxicCard.{ToxicCard}
 use Rattle.scenario.specs.Plan.{Limits}
-use Rattle.blast.specs.Blast.{isFlammable}
+use Rattle.combustion.specs.Heats.{isFlammable}
 use Rattle.fields.specs.declared.Fields.{Fields}
 use Rattle.refusals.specs.declared.Refusal.{Refusal}
 use Rattle.refusals.specs.declared.Refusal.the-variants as refusal

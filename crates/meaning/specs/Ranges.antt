@@ -15,8 +15,8 @@ use Rattle.solutions.specs.Solutions.{solutionOf}
 use Rattle.solutions.specs.SolutionLaws.{solution-below, solution-percent}
 use Rattle.dispersion.specs.declared.Ground.{Ground}
 use Rattle.dispersion.specs.declared.Ground.the-variants.{Rural, Urban}
-use Rattle.blast.specs.Blast.{isFlammable}
-use Rattle.blast.specs.Laws as blast
+use Rattle.combustion.specs.Heats.{isFlammable}
+use Rattle.combustion.specs.Laws as combustion
 use Rattle.release.specs.declared.Containment.{Containment}
 use Rattle.release.specs.declared.Containment.the-variants.{Open, Dike, Building, ShedWithDoors}
 use Rattle.which_table.specs.declared.State.{State}
@@ -160,7 +160,7 @@ shaped-ranged f shape.Flammable p n =
       state = omega arith;
       ground = omega arith;
       containment = omega arith;
-      cas = blast.listed-below (f .cas) (not-false (isFlammable (f .cas)) (known .0));
+      cas = combustion.listed-below (f .cas) (not-false (isFlammable (f .cas)) (known .0));
       pounds = pounds-within (f .pounds) (passed (badPounds (f .pounds)) _ _ (known .1) .0);
       area = omega arith;
       wall = omega arith;

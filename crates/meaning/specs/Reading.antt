@@ -9,7 +9,7 @@ use Rattle.exhibits.specs.declared.Toxic.{Toxic}
 use Rattle.exhibits.specs.declared.Toxic.the-variants.{OfGas, OfLiquid, OfSolution, OutOfRange, NotListed}
 use Rattle.exhibits.specs.Exhibits.{toxicOf}
 use Rattle.solutions.specs.Solutions.{solutionOf}
-use Rattle.blast.specs.Blast.{isFlammable}
+use Rattle.combustion.specs.Heats.{isFlammable}
 use Rattle.scenario.specs.Plan.{Limits}
 use Rattle.fields.specs.declared.Fields.{Fields}
 use Rattle.refusals.specs.declared.Refusal.{Refusal}

@@ -83,7 +83,7 @@ fn flammable_meaning(f: Fields) -> Meaning
     ensures { λ r. ⌜ r ≡ flammableOf f ⌝ }
     ensures { λ r. ⌜ MeaningLimits r ⌝ }
 {
-    if !blast::is_flammable(f.cas) {
+    if !combustion::is_flammable(f.cas) {
         return Meaning::Refused(Refusal::Unlisted);
     }
     if ranges::bad_pounds(f.pounds) {

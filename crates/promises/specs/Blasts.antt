@@ -23,8 +23,8 @@ rows =
     row (blast 13 (propane 10_000) 18 ∷ []) none (at 13 18)
     -- one pound either side of a step, 354 metres and 355
     ∷ row (blast 1 (propane 20_065) 22 ∷ blast 2 (propane 20_066) 23 ∷ []) none (at 2 23)
-    -- at 715 lb the inequality is an equality, and one pound more takes a metre more
-    ∷ row (blast 1 (ethylNitrite 715) 6 ∷ blast 2 (ethylNitrite 716) 6 ∷ []) none (at 1 6)
+    -- at 245,245 lb the inequality is an equality, 595 metres, and one pound more takes a metre more
+    ∷ row (blast 1 (ethylNitrite 245_245) 37 ∷ blast 2 (ethylNitrite 245_246) 38 ∷ []) none (at 2 38)
     -- "Number 11 no longer comes from a flammable card": above the 2,000,000 lb of Table 13
     ∷ row (blast 1 (propane 2_000_000) 103 ∷ blast 2 (propane 2_000_001) 103 ∷ []) none (at 1 103)
     -- the least ring, and the largest that a card can have
@@ -41,12 +41,12 @@ pub in-metres :
     metresOf 10_000 46_333
     ∷ metresOf 20_065 46_333
     ∷ metresOf 20_066 46_333
-    ∷ metresOf 715 18_000
-    ∷ metresOf 716 18_000
+    ∷ metresOf 245_245 18_000
+    ∷ metresOf 245_246 18_000
     ∷ metresOf 2_000_000 46_333
     ∷ metresOf 1 46_333
     ∷ metresOf 10_000_000 119_950
     ∷ []
-    ≡ 281 ∷ 354 ∷ 355 ∷ 85 ∷ 86 ∷ 1_642 ∷ 14 ∷ 3_854 ∷ []
+    ≡ 281 ∷ 354 ∷ 355 ∷ 595 ∷ 596 ∷ 1_642 ∷ 14 ∷ 3_854 ∷ []
 unfolding metresOf firstFrom
 in-metres = refl

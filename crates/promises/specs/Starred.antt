@@ -17,8 +17,9 @@ use Rattle.dense.specs.PrintedDense.{endpoints5, endpoints6, endpoints7, endpoi
 use Rattle.dispersion.specs.PrintedChemical.{table9, table10, table11, table12}
 use Rattle.rules.specs.Rules.{answered, apart, byRange, byRow, closest, closestColumn, closestFrom, closestRow, distance, fromColumn, holding, inUse, larger, largest, lastOf, markOf, past, ratioBelow, smaller, thousandths}
 use Rattle.dispersion.specs.Tables.{readIn, readingOf, tables}
-use Rattle.blast.specs.PrintedC1.{c1}
-use Rattle.blast.specs.Blast.{firstFrom, heatOf, isFlammable, metresOf, ringOf}
+use Rattle.combustion.specs.PrintedC1.{c1}
+use Rattle.combustion.specs.Heats.{heatOf, isFlammable}
+use Rattle.blast.specs.Blast.{firstFrom, metresOf, ringOf}
 use Rattle.release.specs.Rates.{atMostTenMinutes, poolRate}
 use Rattle.pool_area.specs.Pool.{dikedArea, poolArea}
 use Rattle.factors.specs.Factors.{columnOf}

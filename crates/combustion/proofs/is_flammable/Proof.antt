@@ -1,11 +1,11 @@
--- `blast::is_flammable` meets its contract: a substance has a heat of combustion exactly where Exhibit C-1 lists it. Assumes nothing.
+-- `combustion::is_flammable` meets its contract: a substance has a heat of combustion exactly where Exhibit C-1 lists it. Assumes nothing.
 use mathlib.Core.Path.{ap, _∙_}
 use Prim.Native.Nat.{ℕ}
 use lib.Dec.{ltb}
 use borrow.Author.Needs.{needs}
-use Rattle.blast.specs.Laws.{listed}
-use Rattle.blast.proofs.is_flammable.Statement.{statement}
-use Rattle.blast.proofs.is_flammable.Tie as tie
+use Rattle.combustion.specs.Laws.{listed}
+use Rattle.combustion.proofs.is_flammable.Statement.{statement}
+use Rattle.combustion.proofs.is_flammable.Tie as tie
 
 heat-of-requires : tie.Need-heat-of-requires
 heat-of-requires c κs = search needs

@@ -1,0 +1,4 @@
+pub mod Printed
+pub mod PrintedC1
+pub mod Heats
+pub mod Laws
