@@ -160,35 +160,26 @@ pub fn sound_cards(rng: &mut Rng, count: usize) -> Vec<Card> {
 
 /// Cards as [`sound_cards`] makes them, most of them solutions and one of them at least.
 pub fn cards_with_solutions(rng: &mut Rng, count: usize) -> Vec<Card> {
-    let mut cards = sound_cards(rng, count);
-    let certain = rng.below(count as u64) as usize;
-    for (place, card) in cards.iter_mut().enumerate() {
-        if place == certain || !rng.one_in(4) {
-            *card = solution_card(rng, card.number);
-        }
-    }
-    cards
+    cards_with(rng, count, |rng| !rng.one_in(4), solution_card)
 }
 
 /// Cards as [`sound_cards`] makes them, held in every way, over half of them in sheds with doors and one of them at least.
 pub fn cards_with_sheds(rng: &mut Rng, count: usize) -> Vec<Card> {
-    let mut cards = sound_cards(rng, count);
-    let certain = rng.below(count as u64) as usize;
-    for (place, card) in cards.iter_mut().enumerate() {
-        if place == certain || rng.one_in(2) {
-            *card = shed_card(rng, card.number);
-        }
-    }
-    cards
+    cards_with(rng, count, |rng| rng.one_in(2), shed_card)
 }
 
 /// Cards as [`sound_cards`] makes them, most of them flammable and one of them at least.
 pub fn cards_with_blasts(rng: &mut Rng, count: usize) -> Vec<Card> {
+    cards_with(rng, count, |rng| !rng.one_in(4), flammable_card)
+}
+
+/// Sound cards, of which one for certain, and the others as often as is drawn, are made in a way of their own.
+fn cards_with(rng: &mut Rng, count: usize, drawn: fn(&mut Rng) -> bool, make: fn(&mut Rng, u32) -> Card) -> Vec<Card> {
     let mut cards = sound_cards(rng, count);
     let certain = rng.below(count as u64) as usize;
     for (place, card) in cards.iter_mut().enumerate() {
-        if place == certain || !rng.one_in(4) {
-            *card = flammable_card(rng, card.number);
+        if place == certain || drawn(rng) {
+            *card = make(rng, card.number);
         }
     }
     cards
