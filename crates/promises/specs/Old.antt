@@ -1,13 +1,12 @@
--- Answers that are told as old (document 02, A7): none of an accepted register is, in whatever buffer. So a record that keeps answers from before
--- and from now can tell them apart.
+-- Answers that are told as old (document 02, A7): none of an accepted register is, in whatever buffer. So a record that keeps answers from
+-- before and from now can tell them apart.
 -- Assumes nothing.
-use Prim.Native.Nat.{ℕ, _*_, _+_, _≤_, _<_}
+use Prim.Native.Nat.{ℕ, _*_, _≤_, _<_}
 use native.Mathlib.Omega.{arith}
 use mathlib.Core.Path.{_≡_, _∙_, sym, ap}
 use mathlib.Core.Bool.{false}
 use mathlib.Core.List.{List}
 use mathlib.Core.Logic.{⊎-elim}
-use lib.Dec.{eqb}
 use lib.ListN.{getD, take, drop}
 use lib.Seq.{getD-take, getD-drop}
 use borrow.Author.Tests.{ne-eqb}
@@ -27,7 +26,6 @@ use Rattle.meaning.specs.declared.Meaning.{Meaning}
 use Rattle.meaning.specs.declared.Meaning.the-variants as meaning
 use Rattle.meaning.specs.Reading.{meaningOf}
 use Rattle.card.specs.declared.Answer.{Answer}
-use Rattle.card.specs.declared.Answered.{Answered}
 use Rattle.card.specs.declared.Answered.the-variants as answered
 use Rattle.card.specs.Answers.{readToxic, plannedAnswer, answerFor, answerOf}
 use Rattle.buffer.specs.Numbers.{twoBytes, fourBytes}
@@ -35,12 +33,9 @@ use Rattle.encode.specs.Bytes.{answerBytes, isOld}
 use Rattle.farthest.specs.declared.Leaders.{Leaders}
 use Rattle.header.specs.Header.{answerSize, countOf}
 use Rattle.cards.specs.Register.{bufferOf}
+use Rattle.ordering.specs.Order.{tableIn}
 use Rattle.ordering.specs.Claim.{Accepts}
 use Rattle.promises.specs.Buffer.{buffer-at}
-
-abbrev tableIn : Answered → ℕ
-tableIn (answered.Is a) = a .table
-tableIn (answered.Refused r) = 0
 
 -- a table that answers is one of the first twelve
 read-table : (g : Ground) (n : ℕ) (s : Scenario) {a : Answer} → readToxic (readingOf (s .table) g (s .rate .0) (s .endpoint)) n s ≡ answered.Is a → a .table ≤ 12
