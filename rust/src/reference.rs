@@ -3,9 +3,12 @@
 //! Bytes become cards ([`card`]), a toxic card a release ([`release`]), and a release a distance, read from the printed
 //! tables ([`printed`]); a flammable card's distance comes from an equation ([`blast`]). A toxic card with a rate and a
 //! duration becomes a likely distance ([`likely`]). Comma lines become registers and registers comma lines ([`lines`]).
+//! What a rate would be unrounded, and how far above it the reported one may be, is told apart from all this ([`exact`]).
 
 mod blast;
 mod card;
+mod exact;
+mod fraction;
 mod likely;
 mod lines;
 pub mod printed;
@@ -14,6 +17,8 @@ mod release;
 mod tests;
 mod units;
 
+pub use exact::{exact_rate, ExactRate};
+pub use fraction::Fraction;
 pub use likely::{likely, Found, Likely};
 pub use lines::{read_lines, write_lines, MAX_LINE, MAX_STRICT_LINE};
 

@@ -119,12 +119,18 @@ impl Card {
 
 /// A register of cards, with a header that fits them.
 pub fn register(cards: &[Card]) -> Vec<u8> {
+    let cards: Vec<_> = cards.iter().map(Card::bytes).collect();
+    register_of_bytes(&cards)
+}
+
+/// The same of cards as they stand in it.
+pub fn register_of_bytes(cards: &[[u8; CARD_LEN]]) -> Vec<u8> {
     let length = HEADER_LEN + cards.len() * CARD_LEN;
     let mut bytes = Vec::with_capacity(length);
     bytes.extend((length as u32).to_be_bytes());
     bytes.push(1);
     bytes.extend((cards.len() as u16).to_be_bytes());
-    bytes.extend(cards.iter().flat_map(Card::bytes));
+    bytes.extend(cards.as_flattened());
     bytes
 }
 

@@ -4,16 +4,18 @@
 //! on refusal. Then each register is written as comma lines, with the same care, and the lines of an accepted one are
 //! read back. The leaders after the first cards are compared in `prefixes`, on other registers made in the same ways,
 //! sheds with doors beside buildings in `sheds`, blasts at every step of their rings in `blasts`, and likely scenarios,
-//! card by card, in `likely`.
+//! card by card, in `likely`. Each accepted card's rate is held to its bound, and `rates` aims at the bounds.
 //! Run with `cargo test --release --test differential -- --nocapture` to see the counts.
 
 mod blasts;
 mod lent;
 mod likely;
 mod prefixes;
+mod rates;
 mod sheds;
 
 use lent::{hex, Lent, READ_LINES, WRITE_LINES};
+use rates::Rates;
 use rings_second::proved;
 use rings_second::reference::printed::{printed, Factor, Phase, Solute, Toxic};
 use rings_second::reference::{self, Farthest, Refused, ANSWER_LEN, CARD_LEN, HEADER_LEN, MAX_CARDS, MAX_STRICT_LINE};
@@ -85,6 +87,7 @@ struct Comparison {
     held: [usize; 4],
     solutions: Solutions,
     lines: Lines,
+    rates: Rates,
 }
 
 impl Comparison {
@@ -99,6 +102,7 @@ impl Comparison {
             held: [0; 4],
             solutions: Solutions::default(),
             lines: Lines::default(),
+            rates: Rates::default(),
         }
     }
 
@@ -137,10 +141,11 @@ impl Comparison {
             None => {
                 self.accepted += 1;
                 let cards = register[HEADER_LEN..].chunks_exact(CARD_LEN);
-                for (card, answer) in cards.zip(self.answers.ours().chunks_exact(ANSWER_LEN)) {
+                for (card, answer) in cards.zip(self.answers.theirs().chunks_exact(ANSWER_LEN)) {
                     self.routes[usize::from(answer[4])] += 1;
                     self.tables[usize::from(answer[5])] += 1;
                     self.held[usize::from(card[3])] += usize::from(card[0] == 1);
+                    self.rates.hold(card, answer);
                     let answer = answer.try_into().expect("sixteen bytes");
                     assert!(!reference::is_old(answer) && !proved::is_old(answer), "an old answer: {}", hex(answer));
                 }
@@ -169,6 +174,7 @@ impl Comparison {
         }
         self.solutions.report();
         self.lines.report();
+        self.rates.report();
     }
 }
 

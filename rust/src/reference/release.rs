@@ -38,11 +38,11 @@ pub enum Span {
 
 /// How fast a square foot of pool evaporates.
 #[derive(Clone, Copy)]
-struct Evaporation {
+pub struct Evaporation {
     /// LFA or LFB, in millionths.
-    liquid_factor: u64,
+    pub liquid_factor: u64,
     /// TCF, in hundredths.
-    temperature_factor: u64,
+    pub temperature_factor: u64,
 }
 
 impl Evaporation {
@@ -74,7 +74,7 @@ impl ToxicCard<'_> {
     }
 
     /// How the substance evaporates, or `None` if it leaves as a gas over ten minutes.
-    fn evaporation(&self) -> Result<Option<Evaporation>, Fault> {
+    pub fn evaporation(&self) -> Result<Option<Evaporation>, Fault> {
         match (self.state, &self.substance.phase, self.containment) {
             (State::Liquid(tenths), Phase::Liquid(factors), _) => Evaporation::of_liquid(factors, tenths).map(Some),
             (State::Solution(_), Phase::Solution { lfa }, _) => Ok(Some(Evaporation::by(*lfa))),
@@ -86,12 +86,17 @@ impl ToxicCard<'_> {
         }
     }
 
+    /// Whether walls keep some of a gas or a vapor in.
+    pub fn is_sheltered(&self) -> bool {
+        match self.containment {
+            Containment::Building { .. } => true,
+            Containment::Open | Containment::Dike(_) | Containment::ShedWithDoors { .. } => false,
+        }
+    }
+
     fn gas_release(&self) -> Release {
         // Thousandths of pounds / 10, and of pounds / 10 × 0.55: both whole, so nothing is rounded.
-        let thousandths_a_pound = match self.containment {
-            Containment::Building { .. } => 55,
-            Containment::Open | Containment::Dike(_) | Containment::ShedWithDoors { .. } => 100,
-        };
+        let thousandths_a_pound = if self.is_sheltered() { 55 } else { 100 };
         Release {
             route: Route::Gas,
             rate: PoundsPerMinute::from_thousandths(self.pounds.whole() * thousandths_a_pound),
@@ -100,8 +105,7 @@ impl ToxicCard<'_> {
     }
 
     fn pool_release(&self, evaporation: Evaporation) -> Release {
-        let sheltered = matches!(self.containment, Containment::Building { .. });
-        let rate = pool_rate(evaporation, self.pool_area(), sheltered);
+        let rate = pool_rate(evaporation, self.pool_area(), self.is_sheltered());
         let span = match self.state {
             // A solution gives off most while it is strong: its first ten minutes count, however long the pool stands.
             State::Solution(_) => Span::TenMinutes,
@@ -111,7 +115,7 @@ impl ToxicCard<'_> {
     }
 
     /// Pounds × DF: exact, since DF has two decimals and areas are held in hundredths.
-    fn full_area(&self) -> SquareFeet {
+    pub fn full_area(&self) -> SquareFeet {
         SquareFeet::from_hundredths(self.pounds.whole() * self.substance.density_factor)
     }
 

@@ -1,10 +1,10 @@
-//! Document 01's listing, refusals and cards to try, the solutions, the leaders, the sheds with doors and the blasts of
-//! document 02, and the guidance's own examples.
+//! Document 01's listing, refusals and cards to try, the solutions, the leaders, the sheds with doors, the blasts and the
+//! exact rates of document 02, and the guidance's own examples.
 
-use super::{
-    answer, is_old, leaders_after, listing, Accepted, Farthest, Refused, ANSWER_LEN, CARD_LEN, MAX_CARDS, MAX_LEN,
-};
+use super::{answer, exact_rate, is_old, leaders_after, listing, Accepted, Farthest, Fraction, Refused};
+use super::{ANSWER_LEN, CARD_LEN, HEADER_LEN, MAX_CARDS, MAX_LEN};
 use crate::samples::{accepted_register, register, Card, Rng};
+use std::ops::Range;
 
 const AMMONIA: u32 = 7_664_417;
 const BROMINE: u32 = 7_726_956;
@@ -607,6 +607,125 @@ fn the_checks_of_a_shed_with_doors_come_in_their_order() {
             (10, |card| card.tenths = 250),
         ],
     );
+}
+
+/// The exact rate of a card and the slack of its bound.
+fn exact(card: Card) -> (Fraction, Fraction) {
+    let rate = exact_rate(&card.bytes()).expect("an accepted card");
+    (rate.exact, rate.slack)
+}
+
+/// Those of some rates, in thousandths, that could be reported for a card.
+fn admitted(card: Card, rates: Range<u64>) -> Vec<u64> {
+    let rate = exact_rate(&card.bytes()).expect("an accepted card");
+    rates.filter(|thousandths| rate.holds(*thousandths)).collect()
+}
+
+fn over(numerator: u64, denominator: u64) -> Fraction {
+    Fraction::new(numerator, denominator)
+}
+
+#[test]
+fn the_exact_rate_of_a_dike_that_overflows_has_all_of_its_area() {
+    // 100 + (3,200 × 0.033 - 100) / 0.033 is 8,900 / 33, times 0.1022 it is 27.56303.., and 0.014 × 0.073 is 0.001022.
+    let dike = diked(bromine(), 100, 100);
+    assert_eq!(exact(dike), (over(909_580, 33_000), over(2_022, 1_000_000)));
+    assert!(line(dike).starts_with("2 8 27.564 "));
+    assert_eq!(admitted(dike, 27_000..28_000), [27_564, 27_565]);
+    // 37 % hydrochloric acid: 9,000 + 7,363.63.. is 540,000 / 33; 1.4 × 0.0085 is 0.0119.
+    let acid = diked(solution(HYDROCHLORIC_ACID, 370, 50_000), 9_000, 5);
+    assert_eq!(exact(acid), (over(6_426_000, 33_000), over(1_119, 1_000_000)));
+    assert!(line(acid).starts_with("2 5 194.728 "));
+    assert_eq!(admitted(acid, 194_000..195_000), [194_728]);
+    // Refrigerated chlorine: 100 + (310 × 0.033 - 5) / 0.033 is 8,530 / 33; 1.4 × 0.19 is 0.266.
+    let chlorine = diked(toxic(CHLORINE, 3, RURAL, 1_000), 100, 5);
+    assert_eq!(exact(chlorine), (over(2_268_980, 33_000), over(3_660, 1_000_000)));
+    assert!(line(chlorine).starts_with("2 11 68.759 "));
+    assert_eq!(admitted(chlorine, 68_000..69_000), [68_757, 68_758, 68_759, 68_760]);
+    // 1,000,000 + (4,000,000 × 0.033 - 110,000) / 0.033 is 5,000,000 / 3, times 0.0000084 it is 14.
+    const TOLUENE_DIISOCYANATE: u32 = 584_849;
+    let dike = diked(at(toxic(TOLUENE_DIISOCYANATE, 4, RURAL, 10_000_000), 250), 1_000_000, 11);
+    assert_eq!(exact(dike), (over(14, 1), over(1_000_084, 1_000_000_000)));
+    assert!(line(dike).starts_with("2 2 14.001 "));
+    assert_eq!(admitted(dike, 13_000..15_000), [14_000, 14_001]);
+}
+
+#[test]
+fn other_pools_have_whole_areas() {
+    let slack = over(2_022, 1_000_000);
+    assert_eq!(exact(bromine()), (over(327_040, 1_000), slack));
+    assert_eq!(exact(diked(bromine(), 3_200, 0)), (over(327_040, 1_000), slack));
+    assert_eq!(exact(diked(bromine(), 100, 1)), (over(327_040, 1_000), slack));
+    assert_eq!(exact(diked(bromine(), 100, 400)), (over(10_220, 1_000), slack));
+    assert_eq!(exact(in_shed_with_doors(bromine(), 3_199)), (over(3_269_378, 10_000), slack));
+    // By TCF 1.2, and by LFB.
+    assert_eq!(exact(at(diked(bromine(), 100, 400), 300)), (over(12_264, 1_000), over(22_264, 10_000_000)));
+    assert_eq!(exact(at(diked(bromine(), 100, 400), 501)), (over(32_200, 1_000), over(4_220, 1_000_000)));
+}
+
+#[test]
+fn a_building_lowers_the_rate_and_a_part_of_the_slack() {
+    // A tenth of 0.014 × 0.073, and all of 0.001.
+    let building = in_building(bromine(), 3_199);
+    assert_eq!(exact(building), (over(3_269_378, 100_000), over(11_022, 10_000_000)));
+    assert_eq!(admitted(building, 32_000..33_000), [32_694]);
+    let acid = in_building(solution(HYDROCHLORIC_ACID, 370, 5_000), 400);
+    assert_eq!(exact(acid), (over(476, 1_000), over(10_119, 10_000_000)));
+    assert_eq!(admitted(acid, 0..1_000), [476, 477]);
+}
+
+#[test]
+fn a_rate_at_its_bound_does_not_hold() {
+    // 90 % nitric acid on 99.99 square feet: 1.4 × 0.0046 is 0.00644, a hundredth of which and 0.001 make the bound 0.645.
+    let acid = solution(NITRIC_ACID, 900, 303);
+    assert_eq!(exact(acid), (over(6_439_356, 10_000_000), over(10_644, 10_000_000)));
+    assert_eq!(exact_rate(&acid.bytes()).map(|rate| rate.bound()), Ok(over(645, 1_000)));
+    assert_eq!(admitted(acid, 0..1_000), [644]);
+}
+
+#[test]
+fn gases_and_blasts_have_exact_rates() {
+    let cards = [
+        (chlorine(RURAL, 2_249), 224_900),
+        (in_building(chlorine(RURAL, 1), 1), 55),
+        (in_shed_with_doors(chlorine(RURAL, 1), 1), 100),
+        (in_building(toxic(CHLORINE, 3, RURAL, 1_000), 1), 55_000),
+        (diked(toxic(CHLORINE, 3, RURAL, 1_000), 310, 0), 100_000),
+        (flammable(PROPANE, 10_000), 0),
+    ];
+    for (card, thousandths) in cards {
+        assert_eq!(exact(card), (over(thousandths, 1_000), Fraction::NONE));
+        assert_eq!(admitted(card, 0..300_000), [thousandths]);
+    }
+}
+
+#[test]
+fn a_card_without_an_answer_has_no_exact_rate() {
+    let cards = [
+        numbered(bromine(), 0),
+        Card { kind: 3, ..bromine() },
+        toxic(PROPANE, 1, RURAL, 1),
+        diked(bromine(), 100, 10_001),
+        toxic(CHLORINE, 4, RURAL, 1),
+        toxic(AMMONIA, 3, URBAN, 7_500_010),
+    ];
+    for (card, number) in cards.into_iter().zip([5, 6, 7, 14, 10, 11]) {
+        assert_eq!(refusal_of(card), Some((number, 0)));
+        assert_eq!(exact_rate(&card.bytes()), Err(Refused { number, place: 0 }));
+    }
+}
+
+/// The two ways of this implementation to find a rate.
+#[test]
+fn the_rates_that_are_reported_hold() {
+    let bytes = accepted_register(&mut Rng::new(8), MAX_CARDS);
+    let mut answers = [0; MAX_CARDS * ANSWER_LEN];
+    answer(&bytes, &mut answers).expect("an accepted register");
+    for (card, answer) in bytes[HEADER_LEN..].chunks_exact(CARD_LEN).zip(answers.chunks_exact(ANSWER_LEN)) {
+        let rate = exact_rate(card.try_into().expect("24 bytes")).expect("an accepted card");
+        let thousandths = u64::from_be_bytes(answer[6..14].try_into().expect("eight bytes"));
+        assert!(rate.route == answer[4] && rate.holds(thousandths), "{card:?}: {answer:?}");
+    }
 }
 
 /// The guidance rounds what it prints; these are the exact values of the same cards.

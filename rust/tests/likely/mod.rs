@@ -222,10 +222,9 @@ fn as_the_paper_says(card: &[u8; CARD_LEN], rate: u64, minutes: u32, result: Res
 
 /// The number of the refusal by `rings_answer`, of a register of this card alone whose number is in order.
 fn worst_case_refusal(card: &[u8; CARD_LEN]) -> Option<u8> {
-    let mut register = samples::register(&[Card::default()]);
-    let start = register.len() - CARD_LEN;
-    register[start..].copy_from_slice(card);
-    register[start + 20..].copy_from_slice(&1u32.to_be_bytes());
+    let mut card = *card;
+    card[20..].copy_from_slice(&1u32.to_be_bytes());
+    let register = samples::register_of_bytes(&[card]);
     proved::answer(&register, &mut [0; ANSWER_LEN]).err().map(|refused| refused.number)
 }
 

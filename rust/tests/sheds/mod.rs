@@ -37,19 +37,19 @@ fn sheds_with_doors_agree() {
     sheds.report();
 }
 
-/// What both answer for a card alone.
+/// What both answer for a card.
 #[derive(Debug, Clone, Copy, PartialEq, Eq)]
-struct Answer {
-    route: u8,
+pub struct Answer {
+    pub route: u8,
     table: u8,
     /// Thousandths of a pound per minute.
-    rate: u64,
+    pub rate: u64,
     /// Hundredths of a mile.
     miles: u16,
 }
 
 impl Answer {
-    fn read(bytes: &[u8]) -> Self {
+    pub fn read(bytes: &[u8]) -> Self {
         let rate = u64::from_be_bytes(bytes[6..14].try_into().expect("eight bytes"));
         Answer { route: bytes[4], table: bytes[5], rate, miles: u16::from_be_bytes([bytes[14], bytes[15]]) }
     }

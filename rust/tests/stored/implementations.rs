@@ -2,10 +2,13 @@
 
 #[cfg(feature = "proved")]
 use rings_second::proved;
-use rings_second::reference::{self, Accepted, Likely, Refused, ANSWER_LEN, CARD_LEN, HEADER_LEN};
+use rings_second::reference::{self, Accepted, ExactRate, Likely, Refused, ANSWER_LEN, CARD_LEN, HEADER_LEN};
 
 /// Bytes before, at and behind a place in a lent buffer differ, so that a byte that moves is seen.
 const PATTERN: [u8; 7] = [0xa5, 0x5a, 0xff, 0x00, 0x2c, 0x30, 0x0a];
+
+/// A card's exact rate, or its refusal.
+type Exact = fn(&[u8; CARD_LEN]) -> Result<ExactRate, Refused>;
 
 pub struct Implementation {
     pub name: &'static str,
@@ -14,6 +17,7 @@ pub struct Implementation {
     read_lines: fn(&[u8], &mut [u8]) -> Result<usize, Refused>,
     write_lines: fn(&[u8], &mut [u8]) -> Result<usize, Refused>,
     likely: fn(&[u8; CARD_LEN], u64, u32) -> Result<Likely, Refused>,
+    exact_rate: Option<Exact>,
 }
 
 pub static IMPLEMENTATIONS: &[Implementation] = &[
@@ -24,6 +28,7 @@ pub static IMPLEMENTATIONS: &[Implementation] = &[
         read_lines: reference::read_lines,
         write_lines: reference::write_lines,
         likely: reference::likely,
+        exact_rate: Some(reference::exact_rate),
     },
     #[cfg(feature = "proved")]
     Implementation {
@@ -33,6 +38,7 @@ pub static IMPLEMENTATIONS: &[Implementation] = &[
         read_lines: proved::read_lines,
         write_lines: proved::write_lines,
         likely: proved::likely,
+        exact_rate: None,
     },
 ];
 
@@ -56,6 +62,11 @@ impl Implementation {
     /// The alternative distance of a card at a rate that lasts for some minutes.
     pub fn likely(&self, card: &[u8; CARD_LEN], rate: u64, minutes: u32) -> Result<Likely, Refused> {
         (self.likely)(card, rate, minutes)
+    }
+
+    /// The exact rate of a card, where an implementation tells it and not only the reported one.
+    pub fn exact_rate(&self, card: &[u8; CARD_LEN]) -> Option<Result<ExactRate, Refused>> {
+        self.exact_rate.map(|exact_rate| exact_rate(card))
     }
 
     /// The register that a text is read into, in a buffer of a length.

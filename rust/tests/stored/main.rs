@@ -9,4 +9,5 @@ mod implementations;
 mod likely;
 mod lines;
 mod prefixes;
+mod rates;
 mod vectors;

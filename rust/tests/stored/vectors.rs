@@ -2,6 +2,7 @@
 
 use crate::forms::name_of;
 use crate::implementations::{Implementation, IMPLEMENTATIONS};
+use crate::rates;
 use rings_second::reference::{Accepted, Farthest, Likely, Refused};
 use std::fs;
 use std::path::Path;
@@ -10,13 +11,23 @@ use std::path::Path;
 /// of the buffer, how many cards, or a rate and a duration.
 type Answer = fn(&Implementation, &[u8], &[u64]) -> String;
 
-/// The files, and what an implementation says to their lines.
-const FILES: [(&str, Answer); 5] = [
-    ("likely.tsv", |by, card, query| likely(by, card, query)),
-    ("prefix.tsv", |by, register, cards| led(by.leaders_after(register, only(cards)))),
-    ("read.tsv", |by, text, room| converted(by.register_of(text, only(room)))),
-    ("register.tsv", |by, register, room| answered(by.answers(register, only(room)))),
-    ("write.tsv", |by, register, room| converted(by.lines_of(register, only(room)))),
+/// What the columns of a file are.
+#[derive(Clone, Copy)]
+enum Columns {
+    /// An input, the numbers beside it, and the result.
+    Result(Answer),
+    /// A card, its exact rate, and the slack of the bound on the reported one.
+    Rate,
+}
+
+/// The files, and how an implementation is held to their lines.
+const FILES: [(&str, Columns); 6] = [
+    ("likely.tsv", Columns::Result(likely)),
+    ("prefix.tsv", Columns::Result(|by, register, cards| led(by.leaders_after(register, only(cards))))),
+    ("rate.tsv", Columns::Rate),
+    ("read.tsv", Columns::Result(|by, text, room| converted(by.register_of(text, only(room))))),
+    ("register.tsv", Columns::Result(|by, register, room| answered(by.answers(register, only(room))))),
+    ("write.tsv", Columns::Result(|by, register, room| converted(by.lines_of(register, only(room))))),
 ];
 
 #[test]
@@ -24,8 +35,8 @@ fn both_agree_with_every_line() {
     let folder = Path::new(env!("CARGO_MANIFEST_DIR")).join("../tests/vectors");
     assert_eq!(names_in(&folder), FILES.map(|(name, _)| name), "each file is compared");
     let held: Vec<_> = IMPLEMENTATIONS.iter().map(|implementation| implementation.name).collect();
-    for (name, answer) in FILES {
-        let lines = compare(&folder.join(name), answer);
+    for (name, columns) in FILES {
+        let lines = compare(&folder.join(name), columns);
         println!("{name}: {} agreed with all {lines} lines", held.join(" and "));
         assert!(lines > 0, "{name} has no lines");
     }
@@ -41,20 +52,30 @@ fn names_in(folder: &Path) -> Vec<String> {
 }
 
 /// Panics at the first line that an implementation disagrees with; gives how many lines there are.
-fn compare(file: &Path, answer: Answer) -> usize {
+fn compare(file: &Path, columns: Columns) -> usize {
     let text = fs::read_to_string(file).expect("a file of vectors");
     for (line, number) in text.lines().zip(1..) {
-        let columns: Vec<_> = line.split('\t').collect();
-        let [input, beside @ .., expected] = columns.as_slice() else {
-            panic!("{}, line {number}: too few columns", file.display());
-        };
-        let beside: Vec<u64> = beside.iter().map(|digits| digits.parse().expect("a number")).collect();
         for implementation in IMPLEMENTATIONS {
-            let met = answer(implementation, &bytes(input), &beside);
-            assert_eq!(met, *expected, "{}, line {number}: {}", file.display(), implementation.name);
+            let place = format!("{}, line {number}: {}", file.display(), implementation.name);
+            columns.compare(implementation, line, &place);
         }
     }
     text.lines().count()
+}
+
+impl Columns {
+    /// Panics if an implementation disagrees with a line, which is at a place.
+    fn compare(self, by: &Implementation, line: &str, place: &str) {
+        let columns: Vec<_> = line.split('\t').collect();
+        match (self, columns.as_slice()) {
+            (Columns::Result(answer), [input, beside @ .., expected]) => {
+                let beside: Vec<u64> = beside.iter().map(|digits| digits.parse().expect("a number")).collect();
+                assert_eq!(answer(by, &bytes(input), &beside), *expected, "{place}");
+            }
+            (Columns::Rate, [card, exact, slack]) => rates::hold(by, &bytes(card), exact, slack, place),
+            _ => panic!("{place}: columns that are not of this file"),
+        }
+    }
 }
 
 /// The number beside an input that has no other.
