@@ -52,13 +52,19 @@ bytes-at (x ∷ xs) rest (suc i) j a h k =
     ∙ (ap (λ (b : List ℕ). getD b (length (answerBytes x) + (16 * i + j)) 0) (append-assoc (answerBytes x) (bytesOf xs) rest)
     ∙ (getD-append-add (answerBytes x) (bytesOf xs ++ rest) (16 * i + j) 0 ∙ bytes-at xs rest i j a h k))
 
--- What stands at byte 16 i + j of an accepted call's buffer: byte j of the answer of the card at place i.
+-- What stands at the sixteen bytes 16 i + j of an accepted call's buffer: byte j of the answer of the card at place i.
+pub buffer-answer : (bytes out : List ℕ) (l : Leaders) → Accepts bytes out l → (i : ℕ) → i < countOf bytes
+    → (a : Answer) × (last : ℕ) × (answerOf (cardAt bytes i) last ≡ answered.Is a) × ((j : ℕ) → j < 16 → getD (bufferOf bytes out) (16 * i + j) 0 ≡ getD (answerBytes a) j 0)
+buffer-answer bytes out l e i h =
+    let t = to-card bytes (length out) e i h in
+    let f = found bytes (length out) e in
+    (t .0, t .2, t .3, λ j k. ap (λ (b : List ℕ). getD b (16 * i + j) 0) (buffer-is bytes out e) ∙ bytes-at (f .list) (drop (length (bytesOf (f .list))) out) i j (t .0) (t .1) k)
+
+-- one of them
 pub buffer-at : (bytes out : List ℕ) (l : Leaders) → Accepts bytes out l → (i j : ℕ) → i < countOf bytes → j < 16
     → (a : Answer) × (last : ℕ) × (answerOf (cardAt bytes i) last ≡ answered.Is a) × (getD (bufferOf bytes out) (16 * i + j) 0 ≡ getD (answerBytes a) j 0)
 buffer-at bytes out l e i j h k =
-    let t = to-card bytes (length out) e i h in
-    let f = found bytes (length out) e in
-    (t .0, t .2, t .3, ap (λ (b : List ℕ). getD b (16 * i + j) 0) (buffer-is bytes out e) ∙ bytes-at (f .list) (drop (length (bytesOf (f .list))) out) i j (t .0) (t .1) k)
+    let t = buffer-answer bytes out l e i h in (t .0, t .1, t .2, t .3 j k)
 
 -- Every byte beyond is the old one.
 pub buffer-beyond : (bytes out : List ℕ) (l : Leaders) → Accepts bytes out l → (k : ℕ) → 16 * countOf bytes ≤ k → getD (bufferOf bytes out) k 0 ≡ getD out k 0
