@@ -1,10 +1,11 @@
 #!/usr/bin/env python3
-"""Turns data/ into the printed lists of the specifications, the tables of the code and their proof files.
+"""Turns data/ into the printed lists of the specifications, the tables of the code and their proof files, and the
+exact rates of tests/vectors/ into a list that the definitions are held against.
 
     python3 tools/generate.py           writes every generated file
     python3 tools/generate.py --check   exits 1, naming the file, where one is missing or differs
 
-Nothing of data/ is taken on trust: whatever is not as expected stops the run with a message. Figures are converted
+Nothing of them is taken on trust: whatever is not as expected stops the run with a message. Figures are converted
 by integer arithmetic on their text, since a float would not hold 0.0087 exactly.
 """
 
@@ -74,7 +75,7 @@ PLUMES = {"Buoyant": "Neutral", "Dense": "Dense"}
 
 
 class Fault(Exception):
-    """Something in data/ that this program does not expect."""
+    """Something in data/ or tests/vectors/ that this program does not expect."""
 
 
 def expect(holds, where, what):
@@ -331,6 +332,23 @@ def read_chemical(number):
     return lines
 
 
+# ---- Reading tests/vectors/ ----
+
+
+def read_rate_lines():
+    """The lines of rate.tsv: a card's bytes, numerator and denominator of its exact rate, and those of its slack."""
+    name = "tests/vectors/rate.tsv"
+    with open(os.path.join(ROOT, name), encoding="utf-8", newline="") as file:
+        lines = file.read().splitlines()
+    expect(lines, name, "no lines")
+    cards = []
+    for number, line in enumerate(lines, start=1):
+        match = re.fullmatch(r"([0-9a-f]{48})\t([0-9]+) ([1-9][0-9]*)\t([0-9]+) ([1-9][0-9]*)", line)
+        expect(match, f"{name}, line {number}", "not a card and two fractions")
+        cards.append(match.groups())
+    return cards
+
+
 # ---- What the code reads of a table ----
 
 
@@ -553,6 +571,15 @@ def printed_c1(flammables):
         "data/c1.tsv", "Exhibit C-1 as printed. Heats of combustion in whole kilojoules per kilogram.",
         [LIST_IMPORT, printed_import("combustion", ["HeatLine", "heat"])],
         [antt_definition("Exhibit C-1, flammable substances, in the printed order: CAS number, heat of combustion", "c1", "HeatLine",
+                         items)])
+
+
+def rate_vectors(lines):
+    items = [(None, f"rate 0x{card} {' '.join(numbers)}") for card, *numbers in lines]
+    return antt_file(
+        "tests/vectors/rate.tsv", "Cards with their exact rates and slacks, as an independent reading of the papers has them.",
+        [LIST_IMPORT, "use Rattle.rate_gap.specs.RateLines.{RateLine, rate}"],
+        [antt_definition("a card, numerator and denominator of its exact rate, and of the slack: 0 on routes 1 and 3", "vectors", "RateLine",
                          items)])
 
 
@@ -873,6 +900,7 @@ def generated_files():
         "crates/combustion/specs/PrintedC1.antt": printed_c1(flammables),
         "crates/combustion/src/tables.rt": heat_lines(flammables),
         "crates/combustion/proofs/tables/heat_of/Proof.antt": heat_proof(flammables),
+        "crates/rate_gap/specs/Vectors.antt": rate_vectors(read_rate_lines()),
     }
 
 
