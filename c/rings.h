@@ -80,8 +80,9 @@ enum rings_found {
  * register_len   its length in bytes; no length is too long or too short to be handed in.
  * answers_ptr    the answer buffer's first byte. A card's answer is 16 bytes, in the order of the cards, each number
  *                big-endian: card number 4, route 1, table 1, thousandths of a pound per minute 8, hundredths of a
- *                mile 2. Route 3 is a blast, whose table and rate are 0: its distance comes from Equation C-1. Bytes
- *                beyond the last answer are left alone.
+ *                mile 2. Route 3 is a blast, whose table and rate are 0: its distance comes from Equation C-1. A rate by
+ *                route 1 is exact; one by route 2 is rounded up, and below the exact one plus 0.014 x LF x TCF (a tenth
+ *                of that in a building) plus 0.001 pounds per minute. Bytes beyond the last answer are left alone.
  * answers_len    the buffer's length in bytes: 16 x cards, or more.
  * toxic          set to the farthest toxic card: 0 for none, else card number x 65,536 + hundredths of a mile.
  * flammable      the same of the farthest flammable card.
