@@ -3,23 +3,20 @@
 use Prim.Native.Nat.{ℕ, _+_, _*_, _≤_, _<_}
 use mathlib.Core.Path.{_≡_}
 
-infixl 80 _over_
-infixl 70 _times_
-infixl 60 _plus_
-infix 50 _at-most_
-infix 50 _below_
-infix 50 _equals_
 pub record Fraction : Type 0 where
   pub numerator : ℕ
   pub denominator : ℕ
 
 -- 14 over 10 is 1.4
+infixl 80 _over_
 abbrev pub _over_ : ℕ → ℕ → Fraction
 _over_ n d = record { numerator = n; denominator = d }
 
+infixl 70 _times_
 abbrev pub _times_ : Fraction → Fraction → Fraction
 _times_ a b = (a .numerator * b .numerator) over (a .denominator * b .denominator)
 
+infixl 60 _plus_
 abbrev pub _plus_ : Fraction → Fraction → Fraction
 _plus_ a b = (a .numerator * b .denominator + b .numerator * a .denominator) over (a .denominator * b .denominator)
 
@@ -27,12 +24,15 @@ _plus_ a b = (a .numerator * b .denominator + b .numerator * a .denominator) ove
 abbrev pub Defined : Fraction → Type 0
 Defined a = 0 < a .denominator
 
+infix 50 _at-most_
 abbrev pub _at-most_ : Fraction → Fraction → Type 0
 _at-most_ a b = a .numerator * b .denominator ≤ b .numerator * a .denominator
 
 -- strictly
+infix 50 _below_
 abbrev pub _below_ : Fraction → Fraction → Type 0
 _below_ a b = a .numerator * b .denominator < b .numerator * a .denominator
 
+infix 50 _equals_
 abbrev pub _equals_ : Fraction → Fraction → Type 0
 _equals_ a b = a .numerator * b .denominator ≡ b .numerator * a .denominator
