@@ -1,10 +1,11 @@
--- Two cards whose rates are off by nearly all that A8 allows, one in a dike and one in a building, and what they tell: nothing less would do.
+-- Two cards whose rates are off by nearly all that A8 allows, one in a dike and one in a building, and what they rule out: in a dike neither
+-- term of the bound can be left out, and with the shed factor the 0.001 stays whole.
 -- Assumes nothing.
 use Prim.Native.Nat.{ℕ}
 use native.Mathlib.Omega.{arith}
 use mathlib.Core.Path.{_≡_, refl}
 use mathlib.Core.List.{List, [], _∷_, map}
-use Rattle.promises.specs.Starred.{Row, cardOf, row, toxic, given, not-given, at, none, urban, in-dike, in-building, stated, defined, computed}
+use Rattle.promises.specs.Starred.{Row, cardOf, row, toxic, given, at, none, urban, in-dike, in-building, stated, defined, computed}
 use Rattle.rate_gap.specs.Fractions.{_over_, _times_, _plus_, _at-most_, _below_, _equals_}
 use Rattle.rate_gap.specs.Exact.{exactDiked, chainOf, exactIn}
 use Rattle.rate_gap.specs.Claim.{slackIn}
@@ -44,7 +45,7 @@ pub diked-close : exactIn (chainOf (diked 1)) plus slackIn (chainOf (diked 1)) t
 unfolding computed exactDiked chainOf
 diked-close = omega arith
 
--- the bound without its 0.001 would be false, and so would the 0.001 alone
+-- without its 0.001 the bound would be false, and so would the 0.001 alone
 pub thousandth-needed : exactIn (chainOf (diked 1)) plus 14 over 1_000 times 73 over 1_000 at-most 30_522 over 1_000
 unfolding computed exactDiked chainOf
 thousandth-needed = omega arith
@@ -65,7 +66,12 @@ pub sheltered-slack : slackIn (chainOf (sheltered 2)) equals 100_028 over 100_00
 unfolding computed exactDiked chainOf
 sheltered-slack = refl
 
--- over 99.9 percent of it are used, so a tenth of both terms would be false
+-- over 99.9 percent of it are used
 pub sheltered-close : exactIn (chainOf (sheltered 2)) plus slackIn (chainOf (sheltered 2)) times 999 over 1_000 below 72 over 1_000
 unfolding computed exactDiked chainOf
 sheltered-close = omega arith
+
+-- with a tenth of both terms the bound would be false
+pub thousandth-whole : exactIn (chainOf (sheltered 2)) plus 14 over 1_000 times 2 over 10_000 times 1 over 10 plus 1 over 10_000 at-most 72 over 1_000
+unfolding computed exactDiked chainOf
+thousandth-whole = omega arith

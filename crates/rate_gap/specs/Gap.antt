@@ -34,13 +34,13 @@ use Rattle.scenario.specs.declared.Scenario.{Scenario}
 use Rattle.scenario.specs.declared.Planned.{Planned}
 use Rattle.scenario.specs.declared.Planned.the-variants as planned
 use Rattle.scenario.specs.Plan.{Limits, vaporOf, poolOf, undiked, pooled, gasPlan, columnIn, factored, liquidPlan, planFor, planOf}
-use Rattle.buffer.specs.Numbers.{byteAt, eightAt, twoBytes, fourBytes, eightBytes}
+use Rattle.buffer.specs.Numbers.{byteAt, eightAt, twoBytes, fourBytes}
 use Rattle.buffer.specs.Laws.{eight-in, read-eight}
 use Rattle.fields.specs.declared.Fields.{Fields}
 use Rattle.fields.specs.Layout.{fieldsOf}
 use Rattle.meaning.specs.declared.Meaning.{Meaning}
 use Rattle.meaning.specs.declared.Meaning.the-variants as meaning
-use Rattle.meaning.specs.Reading.{substanceOf, meaningOf}
+use Rattle.meaning.specs.Reading.{meaningOf}
 use Rattle.meaning.specs.States.{by-state}
 use Rattle.meaning.specs.Ranges.{ranged}
 use Rattle.meaning.specs.Inverse.{toxic-from}
@@ -50,11 +50,9 @@ use Rattle.card.specs.declared.Answered.the-variants as answered
 use Rattle.card.specs.Answers.{readToxic, plannedAnswer, answerFor, answerOf}
 use Rattle.encode.specs.Bytes.{answerBytes}
 use Rattle.encode.specs.Laws.{length-answer}
-use Rattle.farthest.specs.declared.Leaders.{Leaders}
-use Rattle.header.specs.Header.{countOf}
 use Rattle.cards.specs.Register.{bufferOf}
 use Rattle.ordering.specs.Order.{answer-first}
-use Rattle.ordering.specs.Claim.{cardAt, Accepts}
+use Rattle.ordering.specs.Claim.{cardAt}
 use Rattle.promises.specs.Buffer.{buffer-answer}
 use Rattle.rate_gap.specs.Fractions.{_over_, Defined, _equals_}
 use Rattle.rate_gap.specs.Exact.{Chain, blast, gasOver, poolOver, pick, gasChain, liquidChain, toxicChain, chainIn, chainOf, routeIn, exactIn}

@@ -1,6 +1,6 @@
 -- An area that is rounded up, and a rate that is rounded up from it, by cross-multiplication: what the theorem rests on.
 -- Assumes nothing.
-use Prim.Native.Nat.{ℕ, _+_, _-_, _*_, _≤_, _<_, min}
+use Prim.Native.Nat.{ℕ, _+_, _*_, _≤_, _<_, min}
 use native.Mathlib.Omega.{arith}
 use native.Mathlib.Nat.{le-of-lt, mul-le-mul-left, mul-le-mul-right}
 use mathlib.Core.Path.{_≡_, refl}
@@ -60,22 +60,23 @@ module _ (lf tcf : ℕ) (area : Fraction) (hundredths : ℕ) (r : Rounded area h
   pool-defined false = let d = r .defined in omega arith
   pool-defined true = let d = r .defined in omega arith
 
+  -- a rate that is rounded up in any unit, from the rounded area: it covers what the exact area gives,
+  covers : (rate unit : ℕ) → 14 * (lf * tcf * hundredths) ≤ rate * unit → 14 * (lf * tcf * (area .numerator * 100)) ≤ rate * unit * area .denominator
+  covers rate unit k = omega (arith, mul-le-mul-left (lf * tcf) (r .up), mul-le-mul-right (area .denominator) k)
+
+  -- and stays below that with a hundredth of a square foot and one unit more
+  close : (rate unit : ℕ) → rate * unit < 14 * (lf * tcf * hundredths) + unit
+      → rate * unit * area .denominator < 14 * (lf * tcf * (area .numerator * 100 + area .denominator)) + unit * area .denominator
+  close rate unit k =
+      let d = r .defined in
+      omega (arith, mul-le-mul-left (lf * tcf) (le-of-lt (r .close)), mul-le-mul-right (area .denominator) k)
+
   pub pool-at-least : (shed : Bool) → exactPool lf tcf area shed at-most poolRate lf tcf hundredths shed over 1_000
   unfolding poolRate
-  pool-at-least false =
-      let k : 14 * (lf * tcf * hundredths) ≤ poolRate lf tcf hundredths false * 100_000_000 = omega arith in
-      omega (arith, mul-le-mul-left (lf * tcf) (r .up), mul-le-mul-right (area .denominator) k)
-  pool-at-least true =
-      let k : 14 * (lf * tcf * hundredths) ≤ poolRate lf tcf hundredths true * 1_000_000_000 = omega arith in
-      omega (arith, mul-le-mul-left (lf * tcf) (r .up), mul-le-mul-right (area .denominator) k)
+  pool-at-least false = omega (arith, covers (poolRate lf tcf hundredths false) 100_000_000 (omega arith))
+  pool-at-least true = omega (arith, covers (poolRate lf tcf hundredths true) 1_000_000_000 (omega arith))
 
   pub pool-below : (shed : Bool) → poolRate lf tcf hundredths shed over 1_000 below exactPool lf tcf area shed plus slack lf tcf shed
   unfolding poolRate
-  pool-below false =
-      let d = r .defined in
-      let k : poolRate lf tcf hundredths false * 100_000_000 < 14 * (lf * tcf * hundredths) + 100_000_000 = omega arith in
-      omega (arith, mul-le-mul-left (lf * tcf) (le-of-lt (r .close)), mul-le-mul-right (area .denominator) k)
-  pool-below true =
-      let d = r .defined in
-      let k : poolRate lf tcf hundredths true * 1_000_000_000 < 14 * (lf * tcf * hundredths) + 1_000_000_000 = omega arith in
-      omega (arith, mul-le-mul-left (lf * tcf) (le-of-lt (r .close)), mul-le-mul-right (area .denominator) k)
+  pool-below false = omega (arith, close (poolRate lf tcf hundredths false) 100_000_000 (omega arith))
+  pool-below true = omega (arith, close (poolRate lf tcf hundredths true) 1_000_000_000 (omega arith))
