@@ -1,4 +1,6 @@
 // Equation C-1: the ring of a blast, by the quantity of a flammable substance and its heat of combustion in Exhibit C-1.
+#![tactic(auto)]
+
 ghost use Rattle.std.specs.Prelude.{◌≡◌, ◌≤◌};
 ghost use Rattle.blast.specs.Blast.{metres_of, ring_of};
 

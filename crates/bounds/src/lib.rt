@@ -1,4 +1,6 @@
 // The checks of a toxic card's numbers in their order: its pounds, area, wall, and temperature or concentration.
+#![tactic(auto)]
+
 ghost use Rattle.std.specs.Prelude.{◌≡◌};
 ghost use Rattle.ranges.specs.Ranges.{bounds_of, bounds_refusal, BoundsLimits};
 

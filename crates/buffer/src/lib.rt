@@ -1,5 +1,7 @@
 // Big-endian numbers read from bytes, and bytes, words and big-endian numbers written into a lent buffer from a place on.
 // The caller sees to the room; every byte outside what is written stays as it was.
+#![tactic(auto)]
+
 ghost use Rattle.std.specs.Prelude.{◌≡◌, ◌+◌, ◌≤◌, [], ◌∷◌, length};
 ghost use Rattle.std.proofs.lemmas.List.Edits.{sets};
 ghost use Rattle.buffer.specs.Numbers.{byte_at, two_at, four_at, two_bytes, four_bytes, eight_bytes};

@@ -1,4 +1,6 @@
 // The answer of one card, from its 24 bytes: read, planned, and read off a table; or a blast by its equation.
+#![tactic(auto)]
+
 ghost use Rattle.std.specs.Prelude.{◌≡◌};
 ghost use Rattle.scenario.specs.Plan.{Limits, plan_of};
 ghost use Rattle.card.specs.Answers.{read_toxic, planned_answer, blast_answer, answer_of};
@@ -12,14 +14,14 @@ use scenario::{Planned, Scenario, ToxicCard};
 use units::{Miles, PoundsPerMinute, Reading};
 
 // The two classes of which a register tells the farthest card: kinds 1 and 2.
-#[derive(Drop)]
+#[derive(Clone, Copy)]
 pub enum Class {
     Toxic,
     Flammable,
 }
 
 // What the register answers for a card.
-#[derive(Drop)]
+#[derive(Clone, Copy)]
 pub struct Answer {
     pub number: u32,
     pub class: Class,
@@ -30,7 +32,7 @@ pub struct Answer {
 }
 
 // A card's answer, or why it is sent back.
-#[derive(Drop)]
+#[derive(Clone, Copy)]
 pub enum Answered {
     Is(Answer),
     Refused(Refusal),

@@ -1,4 +1,6 @@
 // A register's cards, walked in turn and answered into the lent buffer.
+#![tactic(auto)]
+
 ghost use Rattle.std.specs.Prelude.{◌≡◌, ◌*◌, ◌≤◌, length};
 ghost use Rattle.cards.specs.Register.{cards_from, result_of, filled_with};
 

@@ -1,5 +1,7 @@
 // The lines of a listing that are no card's: the farthest card of each class, or the one line that says why there is no
 // listing. Each function answers the position behind its line; every byte outside the line stays as it was.
+#![tactic(auto)]
+
 ghost use Rattle.std.specs.Prelude.{◌+◌, ◌≤◌, length};
 ghost use Rattle.buffer.specs.Wrote.{Wrote};
 ghost use Rattle.closing.specs.Closing.{leader_line, refused_line, too_long};

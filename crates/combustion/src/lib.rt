@@ -1,4 +1,6 @@
 // Exhibit C-1: which substances are flammable, and their heats of combustion.
+#![tactic(auto)]
+
 mod tables;
 
 ghost use Rattle.std.specs.Prelude.{◌≡◌, ◌≤◌};

@@ -1,4 +1,6 @@
 // The lines of a text, counted, or the first of them that is not well formed: the first walk of the reader of comma lines.
+#![tactic(auto)]
+
 ghost use Rattle.std.specs.Prelude.{◌≡◌, ◌+◌, ◌≤◌, ◌<◌, length, drop};
 ghost use Rattle.pieces.specs.Pieces.{before};
 ghost use Rattle.comma.specs.Text.{cards_in};
@@ -7,7 +9,7 @@ ghost use Rattle.count_lines.specs.Count.{count_from, bad_line};
 use comma::Line;
 
 // How many lines a text has, or the number of the first that is not well formed, counted from 1.
-#[derive(Drop)]
+#[derive(Clone, Copy)]
 pub enum Lines {
     Good(usize),
     Bad(usize),

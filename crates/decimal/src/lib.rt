@@ -1,5 +1,7 @@
 // Writes numbers as text into a lent buffer, from a position on, and answers the position
 // behind the text. The caller sees to the room; every byte outside the text stays as it was.
+#![tactic(auto)]
+
 ghost use Rattle.std.specs.Prelude.{◌≡◌, ◌+◌, ◌≤◌, [], ◌∷◌, ◌++◌, length};
 ghost use Rattle.buffer.specs.Wrote.{Wrote};
 ghost use Rattle.decimal.specs.Decimal.{padded, digits, fixed};

@@ -1,4 +1,6 @@
 // Reference Tables 5 to 8, by rates and endpoints: one function holds the entries in use of all four, row by row.
+#![tactic(auto)]
+
 mod tables;
 
 ghost use Rattle.std.specs.Prelude.{◌≡◌, [], ◌-◌, ◌<◌, ◌≤◌, get_or};

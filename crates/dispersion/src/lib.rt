@@ -1,5 +1,7 @@
 // Reference Tables 1 to 12: from a rate and an endpoint to a distance. Tables 1 to 8 are read in the crates below; Tables 9 to 12
 // are constants of `tables`. The definitions of specs/ say what is printed, and the proofs tie the one to the other.
+#![tactic(auto)]
+
 mod tables;
 
 ghost use Rattle.std.specs.Prelude.{◌≡◌, ℕ, ◌+◌, ◌<◌, ◌≤◌, ltb, length, get_or};
@@ -15,7 +17,7 @@ use tables::{
 use units::{Miles, PoundsPerMinute, Reading};
 
 // The surroundings of a card.
-#[derive(Drop)]
+#[derive(Clone, Copy)]
 pub enum Ground {
     Rural,
     Urban,

@@ -1,5 +1,7 @@
 // Writes a card's answer into a lent buffer, from a place on: sixteen bytes, and no other byte changes. And tells of sixteen such bytes
 // whether they are from the time of Table 13.
+#![tactic(auto)]
+
 ghost use Rattle.std.specs.Prelude.{◌≡◌, ◌+◌, ◌≤◌, length};
 ghost use Rattle.std.proofs.lemmas.List.Edits.{sets};
 ghost use Rattle.encode.specs.Bytes.{answer_bytes, is_old};

@@ -1,5 +1,7 @@
 // Exhibits B-1, B-2 and B-4, and the types of what all four say of a toxic substance. A mark for no data is a case of its own,
 // never a number.
+#![tactic(auto)]
+
 mod tables;
 
 ghost use Rattle.std.specs.Prelude.{◌≡◌};
@@ -7,14 +9,14 @@ ghost use Rattle.exhibits.specs.Exhibits.{toxic_of};
 ghost use Rattle.exhibits.specs.Lines.{plume_from, cell_from, corrections_from, gas_from, liquid_from};
 
 // How a plume behaves in air.
-#[derive(Drop)]
+#[derive(Clone, Copy)]
 pub enum Plume {
     Neutral,
     Dense,
 }
 
 // A cell of Exhibit B-4: a factor in hundredths, "use LFB instead", or no data.
-#[derive(Drop)]
+#[derive(Clone, Copy)]
 pub enum Cell {
     Factor(u16),
     Lfb,
@@ -22,7 +24,7 @@ pub enum Cell {
 }
 
 // A liquid's cells at 30, 35, 40, 45 and 50 °C.
-#[derive(Drop)]
+#[derive(Clone, Copy)]
 pub struct Corrections {
     pub at30: Cell,
     pub at35: Cell,
@@ -32,7 +34,7 @@ pub struct Corrections {
 }
 
 // LFB in millionths, DF in hundredths, the endpoint in hundred-thousandths of mg/L, the plume of the one column that B-1 has.
-#[derive(Drop)]
+#[derive(Clone, Copy)]
 pub struct Gas {
     pub lfb: u32,
     pub df: u8,
@@ -42,7 +44,7 @@ pub struct Gas {
 
 // LFA and LFB in millionths, DF in hundredths, the endpoint in hundred-thousandths of mg/L, the worst-case and the alternative-case
 // plume.
-#[derive(Drop)]
+#[derive(Clone, Copy)]
 pub struct Liquid {
     pub lfa: u32,
     pub lfb: u32,
@@ -55,7 +57,7 @@ pub struct Liquid {
 
 // A water solution, or oleum, at a concentration: LFA in millionths, DF in hundredths, the endpoint in hundred-thousandths of mg/L,
 // the worst-case and the alternative-case plume.
-#[derive(Drop)]
+#[derive(Clone, Copy)]
 pub struct Solution {
     pub lfa: u32,
     pub df: u8,
@@ -65,7 +67,7 @@ pub struct Solution {
 }
 
 // What the exhibits say of a CAS number, and of a solution's concentration, which may be out of range.
-#[derive(Drop)]
+#[derive(Clone, Copy)]
 pub enum Toxic {
     OfGas(Gas),
     OfLiquid(Liquid),
@@ -77,7 +79,7 @@ pub enum Toxic {
 // The exhibits' line of a substance, in numbers: 1 for a gas of B-1, 2 for a liquid of B-2, 3 for a solution of B-3, 4 for one
 // above the highest concentration there, 0 for none; 1 for a dense plume, in the worst case and in the alternative one; a cell of
 // B-4 as a factor, 65534 for LFB or 65535 for no data.
-#[derive(Drop)]
+#[derive(Clone, Copy)]
 pub struct Line {
     pub kind: u8,
     pub lfa: u32,

@@ -1,4 +1,6 @@
 // The factors that a liquid's pool reads: the column of Exhibit B-4 that its temperature chooses, and what is printed there.
+#![tactic(auto)]
+
 ghost use Rattle.std.specs.Prelude.{◌≡◌};
 ghost use Rattle.std.specs.Int.Signed.{lt_z};
 ghost use Rattle.factors.specs.Factors.{column_of, of_cell, factors_of};
@@ -6,14 +8,14 @@ ghost use Rattle.factors.specs.Factors.{column_of, of_cell, factors_of};
 use exhibits::{Cell, Liquid};
 
 // The liquid factor and the temperature factor that a pool reads, or that the exhibit has no data for it.
-#[derive(Drop)]
+#[derive(Clone, Copy)]
 pub enum Factors {
     Read(u32, u16),
     Missing,
 }
 
 // The columns of B-4, with 25 °C before them, and the temperatures above them all.
-#[derive(Drop)]
+#[derive(Clone, Copy)]
 pub enum Column {
     At25,
     At30,

@@ -1,4 +1,6 @@
 // The farthest card of each class, found by going through the answers of a register in their order.
+#![tactic(auto)]
+
 ghost use Rattle.std.specs.Prelude.{◌≡◌};
 ghost use Rattle.farthest.specs.Farthest.{farther, no_leaders, leaders_after};
 
@@ -6,14 +8,14 @@ use card::{Answer, Class};
 use units::Miles;
 
 // The card that leads its class, by number and distance, or that the class has none so far.
-#[derive(Drop)]
+#[derive(Clone, Copy)]
 pub enum Farthest {
     None,
     Card(u32, Miles),
 }
 
 // The two classes are ranked apart: a toxic distance is never held against a flammable one.
-#[derive(Drop)]
+#[derive(Clone, Copy)]
 pub struct Leaders {
     pub toxic: Farthest,
     pub flammable: Farthest,

@@ -1,8 +1,10 @@
 // The bytes of a card as numbers, before anything is made of them.
+#![tactic(auto)]
+
 ghost use Rattle.std.specs.Prelude.{◌≡◌};
 ghost use Rattle.fields.specs.Layout.{fields_of};
 
-#[derive(Drop)]
+#[derive(Clone, Copy)]
 pub struct Fields {
     pub kind: u8,
     pub state: u8,

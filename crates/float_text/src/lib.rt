@@ -1,5 +1,7 @@
 // A likely distance as text: its miles rounded up, and its bits. A likely distance is a 64-bit float in hundredths of a mile. The
 // caller sees to the room; every byte outside what is written stays as it was.
+#![tactic(auto)]
+
 ghost use Rattle.std.specs.Prelude.{◌≡◌, ◌+◌, ◌<◌, ◌≤◌, not, T, length, is_nan};
 ghost use Rattle.std.specs.Float.Ieee.{le};
 ghost use Rattle.buffer.specs.Wrote.{Wrote};

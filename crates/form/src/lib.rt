@@ -1,4 +1,6 @@
 // Bytes 0 to 3 of a card and the fields that must be zero with them: what kind of card they make, or that they are refused.
+#![tactic(auto)]
+
 ghost use Rattle.std.specs.Prelude.{◌≡◌};
 ghost use Rattle.form.specs.Form.{state_of, ground_of, held_of, heat_fits, shaped_state, blank, shape_of};
 
@@ -9,28 +11,28 @@ use release::{Building, Containment, Dike, ShedWithDoors};
 use which_table::State;
 
 // Byte 1, taken apart.
-#[derive(Drop)]
+#[derive(Clone, Copy)]
 pub enum StateByte {
     Is(State),
     Unlisted,
 }
 
 // Byte 2, taken apart.
-#[derive(Drop)]
+#[derive(Clone, Copy)]
 pub enum GroundByte {
     Is(Ground),
     Unlisted,
 }
 
 // Byte 3 with the area and the wall, taken apart.
-#[derive(Drop)]
+#[derive(Clone, Copy)]
 pub enum Held {
     Is(Containment),
     Filled,
 }
 
 // How a toxic card's vessel stands.
-#[derive(Drop)]
+#[derive(Clone, Copy)]
 pub struct Standing {
     pub state: State,
     pub ground: Ground,
@@ -38,7 +40,7 @@ pub struct Standing {
 }
 
 // What kind of card the bytes make.
-#[derive(Drop)]
+#[derive(Clone, Copy)]
 pub enum Shape {
     Toxic(Standing),
     Flammable,

@@ -1,4 +1,6 @@
 // The header of a register: document 01's checks 1 to 4.
+#![tactic(auto)]
+
 ghost use Rattle.std.specs.Prelude.{◌≡◌};
 ghost use Rattle.header.specs.Header.{bad_length, bad_version, bad_count, bad_buffer, header_of, header_refusal, HeaderFits};
 
@@ -11,7 +13,7 @@ pub const MOST_CARDS: usize = 2_000;
 pub const ENOUGH: usize = 32_000;
 
 // How many cards a register has, or why it is sent back before its first card.
-#[derive(Drop)]
+#[derive(Clone, Copy)]
 pub enum Header {
     Good(usize),
     Refused(Refusal),

@@ -1,12 +1,14 @@
 // Standard input, read whole: what a program of this repository reads before it answers. What comes in is the operating system's, so
 // the contract says only where it lies.
+#![tactic(auto)]
+
 ghost use Rattle.std.specs.Prelude.{length};
 ghost use Rattle.input.specs.Input.{Within};
 
 use libc::STDIN_FILENO;
 
 // How many bytes the input has, up to the buffer's length, or that it cannot be read.
-#[derive(Drop)]
+#[derive(Clone, Copy)]
 pub enum Input {
     Bytes(usize),
     Failed,

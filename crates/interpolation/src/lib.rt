@@ -1,17 +1,19 @@
 // How a likely scenario reads a table of rows (document 02, A6): at a printed rate the entry, between two rows the line between
 // them, in 64-bit floats. The functions take the table as lent lists, whichever table it is.
+#![tactic(auto)]
+
 ghost use Rattle.std.specs.Prelude.{◌≡◌, ◌<◌, length, slice_index};
 ghost use Rattle.interpolation.specs.Interpolation.{float_of, row_of, line_between, entry_read, between_rows, above_last, likely_at};
 
 // A row of a table: its rate in thousandths of a pound per minute and its distance in hundredths of a mile.
-#[derive(Drop)]
+#[derive(Clone, Copy)]
 pub struct Row {
     pub rate: f64,
     pub distance: f64,
 }
 
 // A likely distance in hundredths of a mile: printed, interpolated between two rows, or the limit of 25 miles.
-#[derive(Drop)]
+#[derive(Clone, Copy)]
 pub enum Likely {
     Printed(f64),
     Interpolated(f64),
@@ -19,7 +21,7 @@ pub enum Likely {
 }
 
 // What a table answers at a rate: a distance, or that the rate is beyond the table.
-#[derive(Drop)]
+#[derive(Clone, Copy)]
 pub enum LikelyReading {
     Is(Likely),
     Beyond,

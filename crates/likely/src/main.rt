@@ -1,4 +1,6 @@
 // The program for likely scenarios: reads a question on standard input, one line, and prints its listing.
+#![tactic(auto)]
+
 ghost use Rattle.std.specs.Prelude.{◌≡◌, length};
 
 use input::Input;

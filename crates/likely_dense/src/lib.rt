@@ -1,5 +1,7 @@
 // Reference Tables 18 to 21, of likely scenarios, by rates and endpoints: one array holds the entries in use of all four, column by
 // column, so that the rows of one column are lent as they stand.
+#![tactic(auto)]
+
 mod tables;
 
 ghost use Rattle.std.specs.Prelude.{◌≡◌, [], ◌-◌, ◌<◌, ◌≤◌, get_or};

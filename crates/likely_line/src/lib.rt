@@ -1,5 +1,7 @@
 // The line of a likely scenario: its table, how its distance was found, its miles rounded up, and its bits. Each function answers the
 // position behind what it wrote; every byte outside stays as it was.
+#![tactic(auto)]
+
 ghost use Rattle.std.specs.Prelude.{◌++◌, ◌+◌, ◌≤◌, length};
 ghost use Rattle.buffer.specs.Wrote.{Wrote};
 ghost use Rattle.line_laws.specs.Numbers.{Number, Carries};

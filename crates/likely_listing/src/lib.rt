@@ -1,4 +1,6 @@
 // The listing of a question for a likely scenario: one line, its answer or why it is sent back.
+#![tactic(auto)]
+
 ghost use Rattle.std.specs.Prelude.{◌≡◌, ◌+◌, ◌≤◌, length};
 ghost use Rattle.buffer.specs.Wrote.{Wrote};
 ghost use Rattle.comma.specs.Text.{card_bytes};

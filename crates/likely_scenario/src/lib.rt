@@ -1,4 +1,6 @@
 // A likely scenario beside the worst: the table and the distance of a toxic card at a rate and a duration that the reader supplies.
+#![tactic(auto)]
+
 ghost use Rattle.std.specs.Prelude.{◌≡◌};
 ghost use Rattle.exhibits.specs.Exhibits.{alternative_plume};
 ghost use Rattle.scenario.specs.Plan.{Limits, plan_of};
@@ -14,14 +16,14 @@ use scenario::{Planned, ToxicCard};
 use units::PoundsPerMinute;
 
 // A likely scenario: the reference table that serves it, and its distance.
-#[derive(Drop)]
+#[derive(Clone, Copy)]
 pub struct LikelyScenario {
     pub table: u8,
     pub distance: Likely,
 }
 
 // A card's likely scenario, or why it is sent back.
-#[derive(Drop)]
+#[derive(Clone, Copy)]
 pub enum LikelyAnswer {
     Is(LikelyScenario),
     Refused(Refusal),

@@ -1,5 +1,7 @@
 // Reference Tables 14 to 25, of likely scenarios: from a rate and an endpoint to a distance. Tables 14 to 21 are read in the crates
 // below; Tables 22 to 25 are constants of `tables`.
+#![tactic(auto)]
+
 mod tables;
 
 ghost use Rattle.std.specs.Prelude.{◌≡◌, ℕ, ◌<◌, ◌≤◌, length, get_or};

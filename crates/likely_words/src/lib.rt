@@ -1,4 +1,6 @@
 // The words of the C interface for a likely scenario: its table, how its distance was found, and the distance.
+#![tactic(auto)]
+
 ghost use Rattle.std.specs.Prelude.{◌≡◌};
 ghost use Rattle.likely_words.specs.LikelyWords.{found_of, hundredths_of, likely_code, table_after, found_after, hundredths_after};
 

@@ -1,5 +1,7 @@
 // A card's line of a listing, written as text into a lent buffer from a position on. Each function answers the position
 // behind its text; every byte outside the text stays as it was.
+#![tactic(auto)]
+
 ghost use Rattle.std.specs.Prelude.{◌+◌, ◌≤◌, length};
 ghost use Rattle.buffer.specs.Wrote.{Wrote};
 ghost use Rattle.lines.specs.Lines.{miles_text, rates_text, numbers_text, card_line};

@@ -1,5 +1,7 @@
 // The listing of a register: a line for each card, then the farthest card of each class; or the one line that says why
 // there is none.
+#![tactic(auto)]
+
 ghost use Rattle.std.specs.Prelude.{◌≡◌, ◌*◌, ◌≤◌, length};
 ghost use Rattle.buffer.specs.Wrote.{Wrote};
 ghost use Rattle.header.specs.Header.{enough, header_of};
@@ -13,7 +15,7 @@ use register::Outcome;
 use walk::{Walked, Writes};
 
 // How many bytes of the lent buffer the listing takes, or that the buffer is too short for every listing.
-#[derive(Drop)]
+#[derive(Clone, Copy)]
 pub enum Listed {
     Text(usize),
     NoRoom,

@@ -1,4 +1,6 @@
 // From the fields of a card to what it means, or to the first refusal whose condition holds.
+#![tactic(auto)]
+
 ghost use Rattle.std.specs.Prelude.{◌≡◌};
 ghost use Rattle.meaning.specs.Reading.{bad_number, substance_of, is_listed, toxic_meaning, flammable_of, meaning_of, MeaningLimits};
 
@@ -11,14 +13,14 @@ use scenario::ToxicCard;
 use units::Pounds;
 
 // What a flammable card means.
-#[derive(Drop)]
+#[derive(Clone, Copy)]
 pub struct FlammableCard {
     pub cas: u32,
     pub quantity: Pounds,
 }
 
 // What a card means, or why it is sent back.
-#[derive(Drop)]
+#[derive(Clone, Copy)]
 pub enum Meaning {
     Toxic(ToxicCard),
     Flammable(FlammableCard),

@@ -1,4 +1,6 @@
 // Reference Tables 1 to 4, by ranges of rate / endpoint: each function reads the table of its number.
+#![tactic(auto)]
+
 mod tables;
 
 ghost use Rattle.std.specs.Prelude.{◌≡◌};

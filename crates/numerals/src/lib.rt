@@ -1,9 +1,11 @@
 // The numbers of a comma line: whether a text is a decimal number or a temperature, and which.
+#![tactic(auto)]
+
 ghost use Rattle.std.specs.Prelude.{◌≡◌, ◌≤◌};
 ghost use Rattle.numerals.specs.Numerals.{read_on, number_in, heat_in};
 
 // What a field is to hold: a decimal number of at most so much, a CAS number with hyphens, or a temperature.
-#[derive(Drop)]
+#[derive(Clone, Copy)]
 pub enum Form {
     Decimal(u32),
     Cas,
@@ -11,7 +13,7 @@ pub enum Form {
 }
 
 // The number of a field, or that it is not well formed.
-#[derive(Drop)]
+#[derive(Clone, Copy)]
 pub enum Number {
     Is(u32),
     Malformed,

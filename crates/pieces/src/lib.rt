@@ -1,4 +1,6 @@
 // A text between separators: where the piece that starts at a place ends.
+#![tactic(auto)]
+
 ghost use Rattle.std.specs.Prelude.{◌≡◌, ◌+◌, length, drop};
 ghost use Rattle.pieces.specs.Pieces.{before};
 

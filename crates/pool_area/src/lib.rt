@@ -1,4 +1,6 @@
 // The area of the pool that a spill makes, by what holds it.
+#![tactic(auto)]
+
 ghost use Rattle.std.specs.Prelude.{◌≡◌};
 ghost use Prim.Native.Nat.{min};
 ghost use Rattle.pool_area.specs.Pool.{full_area, diked_area, pool_area, beyond_dike};

@@ -1,4 +1,6 @@
 // The leaders as they go: the farthest card of each class after the first cards of a register.
+#![tactic(auto)]
+
 ghost use Rattle.std.specs.Prelude.{◌≡◌, ◌*◌, ◌≤◌, length};
 ghost use Rattle.cards.specs.Register.{cards_from};
 ghost use Rattle.prefix.specs.Prefix.{result_after, prefix_of};

@@ -1,4 +1,6 @@
 // A question for a likely scenario, as a text: the supplied rate and minutes, and a comma line with the card.
+#![tactic(auto)]
+
 ghost use Rattle.std.specs.Prelude.{◌≡◌};
 ghost use Rattle.question.specs.Question.{asked_in, question_in};
 
@@ -7,7 +9,7 @@ use fields::Fields;
 use numerals::Form;
 
 // What is asked: a rate in thousandths of a pound per minute, whole minutes and a card's fields; or that the text is not well formed.
-#[derive(Drop)]
+#[derive(Clone, Copy)]
 pub enum Question {
     Asked(u32, u32, Fields),
     Malformed,

@@ -1,4 +1,6 @@
 // The ranges of a card's numbers, each by itself: its pounds, area, wall, and temperature or concentration.
+#![tactic(auto)]
+
 ghost use Rattle.std.specs.Prelude.{◌≡◌};
 ghost use Rattle.ranges.specs.Ranges.{bad_pounds, bad_area, bad_heat, signed, tenths_of, bad_tenths, is_out_of_range};
 
@@ -8,7 +10,7 @@ use refusals::Refusal;
 use scenario::Tenths;
 
 // The temperature or the concentration of a card whose numbers are all in range.
-#[derive(Drop)]
+#[derive(Clone, Copy)]
 pub enum Bounds {
     Within(Tenths),
     Refused(Refusal),

@@ -1,4 +1,6 @@
 // One field of a comma line, read from the place where it starts, and what form the ninth field has.
+#![tactic(auto)]
+
 ghost use Rattle.std.specs.Prelude.{◌≡◌};
 ghost use Rattle.comma.specs.Line.{tenths_form};
 ghost use Rattle.comma.specs.Stages.{taken_at};

@@ -1,4 +1,6 @@
 // The reader of one comma line: its eleven fields read into the fields of a card, or found not well formed.
+#![tactic(auto)]
+
 ghost use Rattle.std.specs.Prelude.{◌≡◌, drop};
 ghost use Rattle.comma.specs.Line.{fields_in, lasts_in, line_of};
 ghost use Rattle.comma.specs.Stages.{CodesTold, AmountsTold};

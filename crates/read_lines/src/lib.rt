@@ -1,5 +1,7 @@
 // The reader of comma lines: from a text into a lent version 1 register. Each line is looked at twice, once to find the first
 // that is not well formed and to count them, and once to write the cards.
+#![tactic(auto)]
+
 ghost use Rattle.std.specs.Prelude.{◌≡◌, ◌+◌, ◌*◌, ◌≤◌, length};
 ghost use Rattle.comma.specs.Text.{cards_in, reading_of, read_into};
 ghost use Rattle.count_lines.specs.Count.{count_from};

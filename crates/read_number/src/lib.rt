@@ -1,4 +1,6 @@
 // The number of a field by its form: a decimal number, a temperature, or a CAS number with its hyphens.
+#![tactic(auto)]
+
 ghost use Rattle.std.specs.Prelude.{◌≡◌, ◌≤◌, length};
 ghost use Rattle.numerals.specs.Numerals.{read_on, unhyphened, cas_in, value_in};
 

@@ -1,9 +1,11 @@
 // Why a register is sent back, a text of comma lines, or a question for a likely scenario.
+#![tactic(auto)]
+
 ghost use Rattle.std.specs.Prelude.{◌≡◌};
 ghost use Rattle.refusals.specs.Numbers.{number_of};
 
 // Document 01's reasons 1 to 11, in its order, and those of document 02 behind them.
-#[derive(Drop)]
+#[derive(Clone, Copy)]
 pub enum Refusal {
     Length,
     Version,

@@ -1,4 +1,6 @@
 // A register: its cards checked in turn, then answered into the lent buffer.
+#![tactic(auto)]
+
 ghost use Rattle.std.specs.Prelude.{◌≡◌, ◌*◌, ◌≤◌, length};
 ghost use Rattle.cards.specs.Register.{cards_from, result_of, filled_with, outcome_of, buffer_of};
 

@@ -1,4 +1,6 @@
 // The bytes of a version 1 register, written into a buffer: its header, and a card's fields.
+#![tactic(auto)]
+
 ghost use Rattle.std.specs.Prelude.{◌≡◌, ◌+◌, ◌*◌, ◌≤◌, length};
 ghost use Rattle.std.proofs.lemmas.List.Edits.{sets};
 ghost use Rattle.comma.specs.Text.{card_bytes, header_bytes};

@@ -1,30 +1,32 @@
 // What holds a spill, release rates and durations: the functions that make and open pounds, square feet and pounds per minute.
+#![tactic(auto)]
+
 ghost use Rattle.std.specs.Prelude.{◌≡◌, ◌*◌, ◌≤◌};
 ghost use Rattle.release.specs.Rates.{gas_rate, pool_rate, at_most_ten_minutes, is_building};
 
 use units::{Pounds, PoundsPerMinute, SquareFeet};
 
 // A dike around a vessel: the area inside it, and its wall in hundredths of a foot.
-#[derive(Drop)]
+#[derive(Clone, Copy)]
 pub struct Dike {
     pub area: SquareFeet,
     pub wall: u16,
 }
 
 // A building around a vessel, and its floor.
-#[derive(Drop)]
+#[derive(Clone, Copy)]
 pub struct Building {
     pub floor: SquareFeet,
 }
 
 // A shed with doors, document 02's own term: a building whose walls hold no vapor back, and its floor.
-#[derive(Drop)]
+#[derive(Clone, Copy)]
 pub struct ShedWithDoors {
     pub floor: SquareFeet,
 }
 
 // What holds a spill: nothing, a dike, a building or a shed with doors.
-#[derive(Drop)]
+#[derive(Clone, Copy)]
 pub enum Containment {
     Open,
     Dike(Dike),

@@ -1,4 +1,6 @@
 // The listing program: reads a register on standard input and prints its listing.
+#![tactic(auto)]
+
 ghost use Rattle.std.specs.Prelude.{◌≡◌, length};
 
 use input::Input;

@@ -1,6 +1,8 @@
 // The register behind a C interface: a call that answers it and one that tells the leaders after its first cards, whose result and
 // two farthest cards are words; two that read it from comma lines and write it as such, each with one word beside its result; one
 // that tells a card's likely scenario, by three words; and one that tells whether a stored answer is old.
+#![tactic(auto)]
+
 ghost use Rattle.std.specs.Prelude.{◌≡◌, length};
 ghost use Rattle.card.specs.declared.Class.TheVariants.{Toxic, Flammable};
 ghost use Rattle.cards.specs.Register.{outcome_of, buffer_of};

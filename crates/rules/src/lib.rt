@@ -1,4 +1,6 @@
 // How a reference table is read, whichever table it is: the functions take what they search as lent lists.
+#![tactic(auto)]
+
 ghost use Rattle.std.specs.Prelude.{◌≡◌, false, suc, ◌+◌, ◌*◌, ◌/◌, ltb, length, get_or};
 ghost use Rattle.search.specs.Rising.{first_at_least};
 ghost use Rattle.rules.specs.Rules.{answered};
@@ -10,7 +12,7 @@ use units::{Miles, Reading};
 const MILE_LIMIT: u16 = 2500;
 
 // The row and the column of a dense table that settle a reading.
-#[derive(Drop)]
+#[derive(Clone, Copy)]
 pub struct Place {
     pub row: usize,
     pub column: usize,

@@ -1,4 +1,6 @@
 // The running values of a walk over a register's cards, and the step to one card more. Every walk goes by this step.
+#![tactic(auto)]
+
 ghost use Rattle.std.specs.Prelude.{◌≡◌, ◌+◌, ◌*◌, ◌≤◌, ◌<◌, length, take, drop};
 ghost use Rattle.running.specs.Running.{before_cards, step_of};
 
@@ -7,7 +9,7 @@ use farthest::Leaders;
 use refusals::Refusal;
 
 // The running values: the farthest card of each class so far, the last card's number, and the place of the next card.
-#[derive(Drop)]
+#[derive(Clone, Copy)]
 pub struct Running {
     pub leaders: Leaders,
     pub last: u32,
@@ -15,7 +17,7 @@ pub struct Running {
 }
 
 // A step: the running values after a card, and what the card answers; or why it is sent back, and its place.
-#[derive(Drop)]
+#[derive(Clone, Copy)]
 pub enum Stepped {
     On(Running, Answer),
     Refused(Refusal, u32),

@@ -1,4 +1,6 @@
 // Route and rate of a toxic card, with its table: what the guidance does between a card's meaning and the tables.
+#![tactic(auto)]
+
 ghost use Rattle.std.specs.Prelude.{◌≡◌, ◌≤◌};
 ghost use Rattle.exhibits.specs.Laws.{Within};
 ghost use Rattle.scenario.specs.Plan.{vapor_of, pool_of, undiked, gas_plan, column_in, liquid_plan, solution_plan, plan_of, Limits};
@@ -12,14 +14,14 @@ use which_table::State;
 
 // What bytes 18 and 19 of a card say, and which of the two it is: signed tenths of a degree Celsius, or a solution's tenths of a
 // percent by weight.
-#[derive(Drop)]
+#[derive(Clone, Copy)]
 pub enum Tenths {
     Temperature(i16),
     Concentration(u16),
 }
 
 // What a toxic card means, once it has been read.
-#[derive(Drop)]
+#[derive(Clone, Copy)]
 pub struct ToxicCard {
     pub cas: u32,
     pub entry: Toxic,
@@ -31,7 +33,7 @@ pub struct ToxicCard {
 }
 
 // A release: its route, the reference table that serves it, its rate, and the endpoint that the table is read at.
-#[derive(Drop)]
+#[derive(Clone, Copy)]
 pub struct Scenario {
     pub route: u8,
     pub table: u8,
@@ -40,7 +42,7 @@ pub struct Scenario {
 }
 
 // A card's scenario, or that its state, containment or exhibit does not allow one.
-#[derive(Drop)]
+#[derive(Clone, Copy)]
 pub enum Planned {
     Planned(Scenario),
     Mismatch,
@@ -66,7 +68,7 @@ fn vapor(card: ToxicCard, endpoint: u32, plume: Plume) -> Scenario
 }
 
 // What the exhibits give a pool.
-#[derive(Drop)]
+#[derive(Clone, Copy)]
 struct Source {
     df: u8,
     lf: u32,

@@ -1,4 +1,6 @@
 // The one search of the register: cut points and the rates of rows are found by it. A substance is found by a `match` on its number.
+#![tactic(auto)]
+
 ghost use Rattle.std.specs.Prelude.{◌≡◌};
 ghost use Rattle.search.specs.Rising.{first_at_least};
 

@@ -1,4 +1,6 @@
 // Exhibit B-3 as printed, and the line of a substance at a concentration.
+#![tactic(auto)]
+
 mod tables;
 
 ghost use Rattle.std.specs.Prelude.{◌≡◌};

@@ -1,4 +1,6 @@
 // A field of a comma line without the spaces around it.
+#![tactic(auto)]
+
 ghost use Rattle.std.specs.Prelude.{◌≡◌, ◌-◌, ◌≤◌, length, take, drop};
 ghost use Rattle.spaces.specs.Spaces.{skip, chop, bare};
 

@@ -1,5 +1,7 @@
 // The strict line of a card, written as text into a lent buffer from a position on. Each function answers the position behind
 // its text; every byte outside the text stays as it was.
+#![tactic(auto)]
+
 ghost use Rattle.std.specs.Prelude.{◌+◌, ◌≤◌, [], ◌∷◌, ◌++◌, length};
 ghost use Rattle.buffer.specs.Wrote.{Wrote};
 ghost use Rattle.decimal.specs.Decimal.{digits};

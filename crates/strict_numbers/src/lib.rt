@@ -1,5 +1,7 @@
 // The numbers of a strict line that have a form of their own, a CAS number and a temperature or concentration, written as text into a
 // lent buffer from a position on. Each function answers the position behind its text; every byte outside the text stays as it was.
+#![tactic(auto)]
+
 ghost use Rattle.std.specs.Prelude.{◌+◌, ◌≤◌, [], ◌∷◌, ◌++◌, length};
 ghost use Rattle.buffer.specs.Wrote.{Wrote};
 ghost use Rattle.comma.specs.Strict.{cas_text, heat_text, tenths_text};

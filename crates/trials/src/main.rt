@@ -1,6 +1,8 @@
 // The test program: reads cases on standard input and prints each case's label and what came of it. A case has the
 // length of its label in two bytes and the label, a room in two bytes, the length of its register in two bytes and the
 // register. A room of 65,535 asks for the listing; any other is the length of the answer buffer of a call.
+#![tactic(auto)]
+
 ghost use Rattle.std.specs.Prelude.{◌≡◌, ◌≤◌, ◌<◌, length};
 
 use libc::{STDIN_FILENO, STDOUT_FILENO};

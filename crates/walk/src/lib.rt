@@ -1,5 +1,7 @@
 // The one walk over a register's cards: it takes a step for each card and writes what it is asked to write of it. Who answers a
 // register, who only asks about it, who lists it and who wants the leaders after some of its cards all go by it.
+#![tactic(auto)]
+
 ghost use Rattle.std.specs.Prelude.{◌≡◌, ◌+◌, ◌-◌, ◌*◌, ◌≤◌, ◌<◌, length, drop};
 ghost use Rattle.std.proofs.lemmas.List.Edits.{sets};
 ghost use Rattle.buffer.specs.Wrote.{Wrote};
@@ -12,14 +14,14 @@ use refusals::Refusal;
 use running::{Running, Stepped};
 
 // What a call answers: both classes' farthest, or a refusal and the place of its card.
-#[derive(Drop)]
+#[derive(Clone, Copy)]
 pub enum Outcome {
     Accepted(Leaders),
     Refused(Refusal, u32),
 }
 
 // What a walk writes of each card: nothing, its sixteen bytes of the answer buffer, or its line of a listing.
-#[derive(Drop)]
+#[derive(Clone, Copy)]
 pub enum Writes {
     Nothing,
     Answers,
@@ -27,7 +29,7 @@ pub enum Writes {
 }
 
 // The end of a walk: the running values where it was to end, and how many bytes were written; or the refusal it stopped at.
-#[derive(Drop)]
+#[derive(Clone, Copy)]
 pub enum Walked {
     On(Running, usize),
     Refused(Refusal, u32),

@@ -1,4 +1,6 @@
 // Which reference table serves a toxic release: by substance, state, plume, ground and duration.
+#![tactic(auto)]
+
 ghost use Rattle.std.specs.Prelude.{◌≡◌};
 ghost use Rattle.which_table.specs.WhichTable.{table_of};
 
@@ -6,7 +8,7 @@ use dispersion::Ground;
 use exhibits::Plume;
 
 // How the substance is held: document 01's states 1 to 4, and document 02's state 5, a water solution or oleum.
-#[derive(Drop)]
+#[derive(Clone, Copy)]
 pub enum State {
     Gas,
     Pressurized,

@@ -1,4 +1,6 @@
 // The words of the C interface: what an outcome or a conversion is told by.
+#![tactic(auto)]
+
 ghost use Rattle.std.specs.Prelude.{◌≡◌};
 ghost use Rattle.card.specs.declared.Class.TheVariants.{Toxic, Flammable};
 ghost use Rattle.words.specs.Words.{word_of, refusal_code, code_of, word_after, conversion_code, conversion_at};

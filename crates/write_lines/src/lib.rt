@@ -1,5 +1,7 @@
 // The writer of comma lines: from an accepted register into a lent text, each card as its strict line. The cards are gone
 // through twice, once for the length of the text and once to write it, so that a buffer too short stays as it was.
+#![tactic(auto)]
+
 ghost use Rattle.std.specs.Prelude.{◌≡◌, ◌*◌, ◌≤◌, length};
 ghost use Rattle.strict_lines.specs.Walk.{lines_to};
 ghost use Rattle.write_lines.specs.Writing.{answer_as, written_as, writing_of, write_into};

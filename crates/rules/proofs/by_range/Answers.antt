@@ -1,0 +1,23 @@
+use Prim.Native.Nat.{suc, ◌*◌, ◌-◌}
+use native.Mathlib.Omega.{arith}
+use borrow.Author.Rules.{rules}
+use borrow.Author.Count.{below_none, below_more}
+use mathlib.Core.Logic.{⊎_elim}
+use Rattle.rules.specs.Rules.{answered}
+use Rattle.rules.proofs.Scaled.{scaled_place}
+use Rattle.rules.proofs.by_range.Goals as goal
+
+pub loop-i-init : goal.loop-i-init
+loop-i-init c = (search rules, below_none _)
+
+pub overflow_add-i : goal.overflow_add-i
+overflow_add-i c = omega arith
+
+pub loop-i-smaller : goal.loop-i-smaller
+loop-i-smaller c = omega arith
+
+pub loop-i-preserved : goal.loop-i-preserved
+loop-i-preserved c = (
+  omega arith,
+  below_more _ _ c.loop-i.invariant.1 (omega (arith, c.reaching.ensures)),
+)
