@@ -51,6 +51,7 @@ own_lines cas (line ∷ rest) = go (eqb cas (solution_cas line)) refl (own_lines
 -- and all of them
 all_lines : (cas : ℕ) (lines : List SolutionLine) {m : SolutionLine} → In m lines → solution_cas m ≡ cas → In m (lines_of cas lines)
 unfolding lines_of
+all_lines cas [] {m = m} j e = elim j [ ]
 all_lines cas (line ∷ rest) (first _) e = rw (eq-eqb cas (solution_cas line) (sym e), lines_of) (first (lines_of cas rest))
 all_lines cas (line ∷ rest) {m} (later _ _ j) e = go (eqb cas (solution_cas line)) (all_lines cas rest j e)
   where
@@ -136,6 +137,7 @@ highest_stands (line ∷ rest) h = go (leb (highest rest) (percent_of line)) ref
 -- and no line is above it
 pub under_highest : (lines : List SolutionLine) {m : SolutionLine} → In m lines → percent_of m ≤ highest lines
 unfolding highest
+under_highest [] {m = m} j = elim j [ ]
 under_highest (line ∷ rest) (first _) = omega arith
 under_highest (line ∷ rest) (later _ _ j) = omega (arith, under_highest rest j)
 
@@ -171,6 +173,7 @@ says cas tenths = go (among cas (map solution_cas b3)) (bad_percent cas tenths) 
 -- ---- what holds of each line
 
 in_each : (ok : SolutionLine → Bool) (lines : List SolutionLine) (m : SolutionLine) → In m lines → every ok lines ≡ true → ok m ≡ true
+in_each ok [] m j e = elim j [ ]
 in_each ok (line ∷ rest) _ (first _) e = (both_true (ok line) (every ok rest) e).0
 in_each ok (line ∷ rest) m (later _ _ j) e = in_each ok rest m j (both_true (ok line) (every ok rest) e).1
 

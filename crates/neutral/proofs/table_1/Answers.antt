@@ -1,0 +1,12 @@
+-- `neutral::table_1` meets its contract: the constants are what is computed from the printed table. Assumes nothing.
+use mathlib.Core.Path.{refl, ◌∙◌}
+use Rattle.rules.specs.Rules.{distance, mark_of}
+use Rattle.rules.specs.Cuts.{uppers}
+use Rattle.rules.specs.Carried.{running}
+use Rattle.rules.proofs.Means.{range_means}
+use Rattle.neutral.specs.PrintedNeutral.{table1}
+use Rattle.neutral.proofs.table_1.Goals as goal
+
+pub returns : goal.returns
+unfolding uppers running distance mark_of table1
+returns c = c.by_range.ensures ∙ range_means table1 _ _ refl refl refl _ _
