@@ -9,7 +9,7 @@ use mir.Val.{Fits}
 use mir.Syntax.{w64}
 use Rattle.combustion.specs.Heats.{heat_of}
 use Rattle.blast.specs.Blast.{Least, metres_of, hundredths_of, ring_of}
-use Rattle.blast.specs.Laws.{cube_mono, only_least}
+use Rattle.blast.proofs.Laws.{cube_mono, only_least}
 
 -- the farthest that is looked at is enough for any quantity of four bytes at any heat
 pub need_within : (pounds heat : ℕ) → pounds ≤ 4_294_967_295 → heat ≤ 150_000 → 4_913 * pounds * heat ≤ 3_165_176_148_050_250_000

@@ -1,1 +1,2 @@
 mod Halving
+pub mod Laws

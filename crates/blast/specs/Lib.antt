@@ -1,2 +1,1 @@
 pub mod Blast
-pub mod Laws

@@ -14,7 +14,7 @@ use Rattle.refusals.specs.declared.Refusal.TheVariants as refusal
 use Rattle.ranges.specs.declared.Bounds.{Bounds}
 use Rattle.ranges.specs.declared.Bounds.TheVariants as bounds
 use Rattle.ranges.specs.Ranges.{bad_pounds, bad_area, bad_wall, tenths_of, bad_tenths, is_out_of_range, bounds_if, bounds_of, bounds_refusal}
-use Rattle.ranges.specs.Laws.{pounds_within}
+use Rattle.ranges.proofs.Laws.{pounds_within}
 
 -- pounds in range are at most ten million
 pub pounds_fit : (n : ℕ) (b : Bool) → b ≡ bad_pounds n → b ≡ false → n ≤ 10_000_000

@@ -6,7 +6,7 @@ use mathlib.Core.List.{List}
 use lib.ListN.{length, set, get_or-eq_default}
 use lib.Seq.{sets}
 use Rattle.buffer.specs.Numbers.{byte_at, two_bytes, four_bytes, eight_bytes}
-use Rattle.buffer.specs.Laws.{sets_behind, sets_pair, length_two, length_four}
+use Rattle.buffer.proofs.Laws.{sets_behind, sets_pair, length_two, length_four}
 
 pub past_end : (bytes : List ℕ) (at : ℕ) → length bytes ≤ at → 0 ≡ byte_at bytes at
 past_end bytes at h = sym (get_or-eq_default bytes 0 h)

@@ -1,2 +1,3 @@
 mod Ends
 mod Turns
+pub mod Laws

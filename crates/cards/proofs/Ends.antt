@@ -9,7 +9,7 @@ use lib.ListN.{length, take, drop}
 use lib.Seq.{sets, length-take-le, take_at}
 use Rattle.search.specs.Laws.{clash}
 use Rattle.buffer.specs.Wrote.{Wrote}
-use Rattle.buffer.specs.Laws.{written_first}
+use Rattle.buffer.proofs.Laws.{written_first}
 use Rattle.refusals.specs.declared.Refusal.{Refusal}
 use Rattle.card.specs.declared.Answer.{Answer}
 use Rattle.card.specs.declared.Answered.{Answered}
@@ -26,8 +26,8 @@ use Rattle.walk.specs.declared.Writes.{Writes}
 use Rattle.walk.specs.declared.Writes.TheVariants as writes
 use Rattle.walk.specs.Walk.{text_of, texts_of, walk_from, write_on, text_from, end_of, Within}
 use Rattle.cards.specs.Register.{Cards, answers, sent_back, then, cards_from, result_of, bytes_of, filled_with}
-use Rattle.cards.specs.Laws.{cards_count, bytes_length}
-use Rattle.cards.specs.Walked.{text_is, passed, stopped, end_result}
+use Rattle.cards.proofs.Laws.{cards_count, bytes_length}
+use Rattle.cards.proofs.Walked.{text_is, passed, stopped, end_result}
 
 -- the texts of the answer buffer are its bytes
 texts_bytes : (xs : List Answer) → texts_of writes.Answers xs ≡ bytes_of xs

@@ -5,7 +5,7 @@ use mathlib.Core.Path.{◌≡◌, sym, subst}
 use mathlib.Core.List.{List, [], ◌∷◌}
 use Rattle.units.specs.declared.Miles.{Miles}
 use Rattle.buffer.specs.Wrote.{Wrote}
-use Rattle.buffer.specs.Laws.{joined}
+use Rattle.buffer.proofs.Laws.{joined}
 use Rattle.decimal.specs.Decimal.{digits}
 use Rattle.farthest.specs.declared.Farthest.{Farthest}
 use Rattle.farthest.specs.declared.Farthest.TheVariants as farthest

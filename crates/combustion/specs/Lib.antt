@@ -1,4 +1,3 @@
 pub mod Printed
 pub mod PrintedC1
 pub mod Heats
-pub mod Laws

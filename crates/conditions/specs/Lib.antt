@@ -1,12 +1,4 @@
 pub mod Conditions
 pub mod First
-pub mod Form
-pub mod Substances
-pub mod Vessel
-pub mod Mismatch
-pub mod Beyond
-pub mod Cards
 pub mod Claim
-pub mod Tables
-pub mod Exactly
 pub mod Led

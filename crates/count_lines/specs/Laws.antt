@@ -7,7 +7,7 @@ use Rattle.std.proofs.Math.Path.{ap}
 use mathlib.Core.List.{List, [], ◌∷◌}
 use Rattle.std.proofs.Math.ListN.{length, take, drop, length-drop}
 use Rattle.pieces.specs.Pieces.{pieces, before}
-use Rattle.pieces.specs.Laws.{before_within, before_take, pieces_line}
+use Rattle.pieces.proofs.Laws.{before_within, before_take, pieces_line}
 use Rattle.fields.specs.declared.Fields.{Fields}
 use Rattle.comma.specs.declared.Line.{Line}
 use Rattle.comma.specs.declared.Line.TheVariants as line

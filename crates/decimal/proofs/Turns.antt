@@ -8,9 +8,9 @@ use mathlib.Core.List.{List, [], ◌∷◌, ◌++◌}
 use lib.ListN.{length, set, length-append}
 use lib.Seq.{sets, set_comm}
 use Rattle.buffer.specs.Wrote.{Wrote}
-use Rattle.buffer.specs.Laws.{sets_append, joined}
+use Rattle.buffer.proofs.Laws.{sets_append, joined}
 use Rattle.decimal.specs.Decimal.{padded, digits, fixed}
-use Rattle.decimal.specs.Laws.{length_padded, digits_small, digits_more, digits_padded}
+use Rattle.decimal.proofs.Laws.{length_padded, digits_small, digits_more, digits_padded}
 
 -- a byte behind a text may as well be written before it
 set_behind : (s b : List ℕ) (at k v : ℕ) → at + length s ≤ k → set (sets b at s) k v ≡ sets (set b k v) at s

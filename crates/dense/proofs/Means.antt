@@ -15,7 +15,7 @@ use Rattle.search.specs.Flat.{flat, flat_at, all_long}
 use Rattle.rules.specs.Printed.{Mark}
 use Rattle.rules.specs.Rules.{in_use, from_column, larger, smaller, thousandths, closest_row, closest_column, last_of, answered, by_row}
 use Rattle.rules.specs.Cuts.{cuts, cuts_from, climbs, climbs_from}
-use Rattle.rules.specs.Laws.{row_by_cuts, column_by_cuts}
+use Rattle.rules.proofs.Laws.{row_by_cuts, column_by_cuts}
 use Rattle.rules.specs.Carried.{grid_in_use, grid_at}
 use Rattle.dense.specs.PrintedDense.{rates5, endpoints5}
 use Rattle.dense.specs.Grids.{dense_tables, dense_rows, no_row}

@@ -1,1 +1,2 @@
 pub mod Means
+pub mod Laws

@@ -1,3 +1,2 @@
 pub mod PrintedChemical
 pub mod Tables
-pub mod Laws

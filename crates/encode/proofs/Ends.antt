@@ -7,7 +7,7 @@ use mathlib.Core.List.{List, [], ◌∷◌, ◌++◌}
 use lib.ListN.{length, set, length-set}
 use lib.Seq.{sets}
 use Rattle.buffer.specs.Numbers.{two_bytes, four_bytes, eight_bytes}
-use Rattle.buffer.specs.Laws.{sets_behind, sets_pair, length_four, length_eight}
+use Rattle.buffer.proofs.Laws.{sets_behind, sets_pair, length_four, length_eight}
 use Rattle.card.specs.declared.Answer.{Answer}
 use Rattle.encode.specs.Bytes.{answer_bytes}
 

@@ -4,7 +4,7 @@ use Rattle.std.specs.Prelude.{ℕ, ◌+◌, ◌^◌, ◌≤◌, ◌<◌, ◌≡�
 use Rattle.std.proofs.Common.{arith, add-zero, sym, ap, ◌∙◌}
 use Rattle.std.proofs.lemmas.List.Edits.{sets}
 use Rattle.buffer.specs.Numbers.{four_at, two_bytes, four_bytes, eight_bytes}
-use Rattle.buffer.specs.Laws.{stands, two_in, four_in, eight_in, read_two, read_four, read_eight}
+use Rattle.buffer.proofs.Laws.{stands, two_in, four_in, eight_in, read_two, read_four, read_eight}
 use Rattle.card.specs.declared.Class.TheVariants as class
 use Rattle.card.specs.declared.Answer.{Answer}
 use Rattle.encode.specs.Bytes.{answer_bytes, AnswerAt}

@@ -4,5 +4,3 @@ pub mod PrintedB2
 pub mod PrintedB4
 pub mod Exhibits
 pub mod Lines
-pub mod Laws
-pub mod Back

@@ -9,10 +9,10 @@ use Rattle.decimal.specs.Decimal.{fixed}
 use Rattle.interpolation.specs.Interpolation.{float_of}
 use Rattle.float_text.specs.RoundedUp.{up_of}
 use Rattle.float_text.specs.Values.{by_sign, under, cut_within}
-use Rattle.float_text.specs.Cases.{up_more, up_same}
-use Rattle.float_text.specs.UpLaws.{up_within}
+use Rattle.float_text.proofs.Cases.{up_more, up_same}
+use Rattle.float_text.proofs.UpLaws.{up_within}
 use Rattle.float_text.specs.Hex.{hex_digit}
-use Rattle.float_text.specs.HexLaws.{digit_figure, digit_letter}
+use Rattle.float_text.proofs.HexLaws.{digit_figure, digit_letter}
 
 -- ---- `up`: the whole part is asked for above -1 and below 2 ^ 64
 

@@ -1,2 +1,5 @@
 mod Ends
 mod Turns
+pub mod Cases
+pub mod HexLaws
+pub mod UpLaws

@@ -6,7 +6,7 @@ use lib.Seq.{sets}
 use Rattle.buffer.specs.Wrote.{Wrote}
 use Rattle.decimal.proofs.Turns.{last_first}
 use Rattle.float_text.specs.Hex.{hex_digit, hex_digits, pattern_of}
-use Rattle.float_text.specs.HexLaws.{length_hex}
+use Rattle.float_text.proofs.HexLaws.{length_hex}
 
 -- the last digit is written first, and the others before it; `whole` is the buffer with all of the digits in it
 pub digit_turn : (b whole : List ℕ) (at left n digit : ℕ) → 0 < left → digit ≡ hex_digit (n % 16) → whole ≡ sets b at (hex_digits left n)

@@ -5,7 +5,7 @@ use mathlib.Core.Path.{Path}
 use Rattle.search.specs.Rising.{first_at_least}
 use Rattle.rules.specs.Rules.{in_use, thousandths}
 use Rattle.rules.specs.Carried.{running, in_use_at}
-use Rattle.rules.specs.Laws.{length_thousandths}
+use Rattle.rules.proofs.Laws.{length_thousandths}
 use Rattle.interpolation.specs.declared.Likely.{Likely}
 use Rattle.interpolation.specs.declared.LikelyReading.{LikelyReading}
 use Rattle.interpolation.specs.declared.LikelyReading.TheVariants.{Is}

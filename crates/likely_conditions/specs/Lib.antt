@@ -1,4 +1,2 @@
 pub mod Conditions
 pub mod Claim
-pub mod Beyond
-pub mod Exactly

@@ -15,7 +15,7 @@ use Rattle.search.specs.Flat.{flat, flat_at, all_long}
 use Rattle.rules.specs.Printed.{Mark}
 use Rattle.rules.specs.Rules.{distance, largest, in_use, from_column, smaller, thousandths, closest_column}
 use Rattle.rules.specs.Cuts.{cuts, cuts_from, climbs, climbs_from}
-use Rattle.rules.specs.Laws.{column_by_cuts}
+use Rattle.rules.proofs.Laws.{column_by_cuts}
 use Rattle.rules.specs.Carried.{running, in_use_at}
 use Rattle.interpolation.specs.Interpolation.{likely_at, likely_by_row}
 use Rattle.interpolation.proofs.Means.{likely_means}

@@ -5,7 +5,7 @@ use mathlib.Core.Path.{◌≡◌, sym, subst}
 use mathlib.Core.List.{List, [], ◌∷◌, ◌++◌}
 use lib.Ieee.{Float}
 use Rattle.buffer.specs.Wrote.{Wrote}
-use Rattle.buffer.specs.Laws.{joined}
+use Rattle.buffer.proofs.Laws.{joined}
 use Rattle.decimal.specs.Decimal.{digits, fixed}
 use Rattle.interpolation.specs.declared.Likely.{Likely}
 use Rattle.interpolation.specs.declared.Likely.TheVariants.{Printed, Interpolated, Limit}

@@ -11,11 +11,11 @@ use Rattle.refusals.specs.declared.Refusal.{Refusal}
 use Rattle.refusals.specs.declared.Refusal.TheVariants as refusal
 use Rattle.refusals.specs.Numbers.{number_of}
 use Rattle.buffer.specs.Wrote.{Wrote}
-use Rattle.buffer.specs.Laws.{written_first}
+use Rattle.buffer.proofs.Laws.{written_first}
 use Rattle.closing.specs.Closing.{refused_line, too_long}
 use Rattle.fields.specs.declared.Fields.{Fields}
 use Rattle.comma.specs.Text.{card_bytes}
-use Rattle.comma.specs.CardLaws.{card_length}
+use Rattle.comma.proofs.CardLaws.{card_length}
 use Rattle.question.specs.declared.Question.{Question}
 use Rattle.question.specs.declared.Question.TheVariants as question
 use Rattle.question.specs.Question.{question_in}

@@ -8,7 +8,7 @@ use Rattle.interpolation.specs.declared.Likely.{Likely}
 use Rattle.interpolation.specs.declared.Likely.TheVariants.{Printed, Interpolated, Limit}
 use Rattle.line_laws.specs.Numbers.{Carries}
 use Rattle.float_text.specs.RoundedUp.{up_of}
-use Rattle.float_text.specs.UpLaws.{up_exact}
+use Rattle.float_text.proofs.UpLaws.{up_exact}
 use Rattle.likely_scenario.specs.declared.LikelyScenario.{LikelyScenario}
 use Rattle.likely_scenario.specs.declared.LikelyAnswer.TheVariants as answer
 use Rattle.likely_scenario.specs.LikelyScenario.{likely_of}

@@ -1,4 +1,2 @@
 pub mod Lines
 pub mod LinesClaim
-pub mod LinesExactly
-pub mod LinesPlain

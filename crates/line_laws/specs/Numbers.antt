@@ -13,7 +13,7 @@ use Rattle.search.specs.Laws.{first_reaches, both_true}
 use Rattle.search.specs.Places.{every}
 use Rattle.rules.specs.Rules.{mile_limit, largest, in_use, thousandths}
 use Rattle.rules.specs.Cuts.{climbs}
-use Rattle.rules.specs.Laws.{in_use_mono}
+use Rattle.rules.proofs.Laws.{in_use_mono}
 use Rattle.interpolation.specs.declared.Likely.{Likely}
 use Rattle.interpolation.specs.declared.Likely.TheVariants.{Printed, Interpolated, Limit}
 use Rattle.interpolation.specs.declared.LikelyReading.{LikelyReading}

@@ -11,7 +11,7 @@ use Rattle.search.specs.Laws.{clash, first_unique}
 use Rattle.search.specs.Places.{every}
 use Rattle.rules.specs.Rules.{mile_limit, in_use, thousandths}
 use Rattle.rules.specs.Cuts.{climbs}
-use Rattle.rules.specs.Laws.{length_thousandths}
+use Rattle.rules.proofs.Laws.{length_thousandths}
 use Rattle.interpolation.specs.declared.Likely.{Likely}
 use Rattle.interpolation.specs.declared.Likely.TheVariants.{Interpolated, Limit}
 use Rattle.interpolation.specs.declared.LikelyReading.TheVariants.{Is}

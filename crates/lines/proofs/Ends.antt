@@ -6,7 +6,7 @@ use mathlib.Core.List.{List, [], ◌∷◌, ◌++◌}
 use Rattle.card.specs.declared.Answer.{Answer}
 use Rattle.buffer.specs.Wrote.{Wrote}
 use Rattle.decimal.specs.Decimal.{digits, fixed}
-use Rattle.buffer.specs.Laws.{joined}
+use Rattle.buffer.proofs.Laws.{joined}
 use Rattle.lines.specs.Lines.{spaced, ended, miles_text, rates_text, numbers_text, card_line}
 
 module _ {b₀ b₁ b₂ : List ℕ} {at mid end : ℕ} where

@@ -9,9 +9,9 @@ use borrow.Author.Tests.{eq-eqb, ne_eqb}
 use Rattle.units.specs.declared.Pounds.{Pounds}
 use Rattle.exhibits.specs.declared.Toxic.{Toxic}
 use Rattle.exhibits.specs.Exhibits.{toxic_of}
-use Rattle.exhibits.specs.Laws.{Within, within}
+use Rattle.exhibits.proofs.Laws.{Within, within}
 use Rattle.solutions.specs.Solutions.{solution_of}
-use Rattle.solutions.specs.SolutionLaws.{solution_within}
+use Rattle.solutions.proofs.SolutionLaws.{solution_within}
 use Rattle.scenario.specs.declared.Tenths.{Tenths}
 use Rattle.scenario.specs.Plan.{Limits}
 use Rattle.combustion.specs.Heats.{is_flammable}

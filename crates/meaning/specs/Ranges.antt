@@ -7,13 +7,13 @@ use Rattle.search.specs.Laws.{clash}
 use Rattle.exhibits.specs.declared.Toxic.{Toxic}
 use Rattle.exhibits.specs.declared.Toxic.TheVariants.{NotListed}
 use Rattle.exhibits.specs.Exhibits.{toxic_of}
-use Rattle.exhibits.specs.Laws as exhibits
+use Rattle.exhibits.proofs.Laws as exhibits
 use Rattle.solutions.specs.Solutions.{solution_of}
-use Rattle.solutions.specs.SolutionLaws.{solution_below, solution_percent}
+use Rattle.solutions.proofs.SolutionLaws.{solution_below, solution_percent}
 use Rattle.dispersion.specs.declared.Ground.{Ground}
 use Rattle.dispersion.specs.declared.Ground.TheVariants.{Rural, Urban}
 use Rattle.combustion.specs.Heats.{is_flammable}
-use Rattle.combustion.specs.Laws as combustion
+use Rattle.combustion.proofs.Laws as combustion
 use Rattle.release.specs.declared.Containment.{Containment}
 use Rattle.release.specs.declared.Containment.TheVariants.{Open, Dike, Building, ShedWithDoors}
 use Rattle.which_table.specs.declared.State.{State}
@@ -31,7 +31,7 @@ use Rattle.form.specs.Inverse.{toxic_shape, flammable_shape}
 use Rattle.form.specs.Same.{state_in, state_byte, ground_in, ground_byte_lem, held_bytes, flammable_blank}
 use Rattle.ranges.specs.declared.Bounds.{Bounds}
 use Rattle.ranges.specs.Ranges.{bad_pounds, bad_area, bad_wall, tenths_of, bad_tenths, is_out_of_range, bounds_if, bounds_of}
-use Rattle.ranges.specs.Laws.{pounds_within, wall_within, heat_within, area_within}
+use Rattle.ranges.proofs.Laws.{pounds_within, wall_within, heat_within, area_within}
 use Rattle.meaning.specs.declared.Meaning.{Meaning}
 use Rattle.meaning.specs.declared.Meaning.TheVariants as meaning
 use Rattle.meaning.specs.States.{by_state}

@@ -11,7 +11,7 @@ use Rattle.decimal.specs.Decimal.{read_from}
 use Rattle.numerals.specs.declared.Number.{Number}
 use Rattle.numerals.specs.declared.Number.TheVariants as number
 use Rattle.numerals.specs.Numerals.{read_on}
-use Rattle.numerals.specs.Runs.{digit_on, digit_low, digit_high, too_wide}
+use Rattle.numerals.proofs.Runs.{digit_on, digit_low, digit_high, too_wide}
 
 -- `v` is what was read before place `i`
 module _ (digits : List ℕ) (most v i : ℕ) (whole : Number) (so_far : whole ≡ read_on most v (drop i digits)) where

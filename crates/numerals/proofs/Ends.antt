@@ -11,7 +11,7 @@ use Rattle.buffer.specs.Numbers.{byte_at}
 use Rattle.numerals.specs.declared.Number.{Number}
 use Rattle.numerals.specs.declared.Number.TheVariants as number
 use Rattle.numerals.specs.Numerals.{Within, read_on, number_in, minus, heat_in}
-use Rattle.numerals.specs.Laws.{number_within}
+use Rattle.numerals.proofs.Laws.{number_within}
 
 -- ---- a decimal number
 

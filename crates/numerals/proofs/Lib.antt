@@ -1,2 +1,4 @@
 mod Digits
 mod Ends
+pub mod Laws
+pub mod Runs

@@ -1,3 +1,1 @@
 pub mod Numerals
-pub mod Laws
-pub mod Runs

@@ -1,4 +1,2 @@
 pub mod Order
 pub mod Claim
-pub mod Found
-pub mod Ordering

@@ -8,9 +8,9 @@ use Rattle.search.specs.Places.{either}
 use Rattle.units.specs.declared.Reading.{Reading}
 use Rattle.units.specs.declared.Reading.TheVariants as reading
 use Rattle.dispersion.specs.Tables.{reading_of}
-use Rattle.dispersion.specs.Laws.{reading_mono}
+use Rattle.dispersion.proofs.Laws.{reading_mono}
 use Rattle.blast.specs.Blast.{ring_of}
-use Rattle.blast.specs.Laws.{fuller_no_smaller}
+use Rattle.blast.proofs.Laws.{fuller_no_smaller}
 use Rattle.scenario.specs.declared.ToxicCard.{ToxicCard}
 use Rattle.scenario.specs.declared.Scenario.{Scenario}
 use Rattle.scenario.specs.declared.Planned.{Planned}

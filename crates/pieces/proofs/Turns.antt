@@ -8,7 +8,7 @@ use mathlib.Core.List.{List}
 use lib.ListN.{length, drop, get_or, drop_of_length-le}
 use lib.Seq.{drop-cons}
 use Rattle.pieces.specs.Pieces.{before}
-use Rattle.pieces.specs.Laws.{before_stop, before_on, before_none}
+use Rattle.pieces.proofs.Laws.{before_stop, before_on, before_none}
 
 -- `whole` is the end of the piece; `i` is where the walk stands
 module _ (x : ℕ) (text : List ℕ) (whole i : ℕ) (so_far : whole ≡ i + length (before x (drop i text))) where

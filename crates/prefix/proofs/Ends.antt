@@ -16,18 +16,18 @@ use Rattle.walk.specs.declared.Outcome.{Outcome}
 use Rattle.walk.specs.declared.Outcome.TheVariants as outcome
 use Rattle.running.specs.declared.Running.{Running}
 use Rattle.running.specs.Running.{before_cards}
-use Rattle.running.specs.Laws.{running_place}
+use Rattle.running.proofs.Laws.{running_place}
 use Rattle.walk.specs.declared.Walked.{Walked}
 use Rattle.walk.specs.declared.Walked.TheVariants as walked
 use Rattle.walk.specs.declared.Writes.TheVariants as writes
 use Rattle.walk.specs.Walk.{walk_from, end_of}
 use Rattle.cards.specs.Register.{cards_from, cards_of}
-use Rattle.cards.specs.Laws.{cards_count, behind_header, header_refused}
-use Rattle.cards.specs.Walked.{Passed, passed, passed_leaders, stopped}
+use Rattle.cards.proofs.Laws.{cards_count, behind_header, header_refused}
+use Rattle.cards.proofs.Walked.{Passed, passed, passed_leaders, stopped}
 use Rattle.prefix.specs.Prefix.{result_after, result_behind, prefix_of}
 use Rattle.prefix.specs.Claim.{Keeps}
 use Rattle.prefix.specs.Cut.{in_front, front_answers, front_sent_back, cut_answered, cut_sent_back}
-use Rattle.prefix.specs.Kept.{keeps, all_cards, refused_first}
+use Rattle.prefix.proofs.Kept.{keeps, all_cards, refused_first}
 
 -- ---- the two parts of the walk
 

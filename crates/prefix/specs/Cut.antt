@@ -11,7 +11,7 @@ use Rattle.card.specs.Answers.{answer_of}
 use Rattle.running.specs.declared.Running.{Running}
 use Rattle.running.specs.Running.{after_card, running_after}
 use Rattle.cards.specs.Register.{Cards, answers, sent_back, joined, then, cards_from}
-use Rattle.cards.specs.Laws.{joined_is}
+use Rattle.cards.proofs.Laws.{joined_is}
 
 -- the answers of the first cards in front of what the others come to
 abbrev pub in_front : List Answer → Cards → Cards

@@ -8,7 +8,7 @@ use Rattle.units.specs.declared.Reading.{Reading}
 use Rattle.units.specs.declared.Reading.TheVariants as reading
 use Rattle.dispersion.specs.declared.Ground.{Ground}
 use Rattle.dispersion.specs.Tables.{reading_of}
-use Rattle.dispersion.specs.Laws.{reading_none}
+use Rattle.dispersion.proofs.Laws.{reading_none}
 use Rattle.scenario.specs.declared.ToxicCard.{ToxicCard}
 use Rattle.scenario.specs.declared.Scenario.{Scenario}
 use Rattle.scenario.specs.declared.Planned.{Planned}

@@ -12,7 +12,7 @@ use borrow.Author.Tests.{ltb-true}
 use Rattle.search.specs.Laws.{clash}
 use Rattle.fields.specs.declared.Fields.{Fields}
 use Rattle.pieces.specs.Pieces.{before, pieces}
-use Rattle.pieces.specs.Laws.{before_take, before_within, behind, pieces_line}
+use Rattle.pieces.proofs.Laws.{before_take, before_within, behind, pieces_line}
 use Rattle.numerals.specs.declared.Number.{Number}
 use Rattle.numerals.specs.declared.Number.TheVariants as number
 use Rattle.numerals.specs.Numerals.{value_in}

@@ -2,8 +2,6 @@ pub mod Fractions
 pub mod Exact
 pub mod Claim
 pub mod Rounding
-pub mod Gap
-pub mod Close
 pub mod RateLines
 pub mod Vectors
 pub mod Agreed

@@ -6,7 +6,7 @@ use mathlib.Core.Path.{◌≡◌, refl, sym, ap, ◌∙◌}
 use mathlib.Core.List.{List}
 use lib.ListN.{length, take, drop}
 use Rattle.pieces.specs.Pieces.{before}
-use Rattle.pieces.specs.Laws.{before_take}
+use Rattle.pieces.proofs.Laws.{before_take}
 use Rattle.numerals.specs.declared.Form.{Form}
 use Rattle.numerals.specs.declared.Form.TheVariants.{Decimal, Temperature}
 use Rattle.numerals.specs.declared.Number.{Number}
@@ -15,8 +15,8 @@ use Rattle.numerals.specs.Numerals.{value_in}
 use Rattle.comma.specs.declared.Taken.TheVariants as taken
 use Rattle.comma.specs.Line.{tenths_form}
 use Rattle.comma.specs.Stages.{placed, taken_at}
-use Rattle.comma.specs.StageLaws.{taken_ended, taken_unended}
-use Rattle.comma.specs.StrictLaws.{tenths_cases}
+use Rattle.comma.proofs.StageLaws.{taken_ended, taken_unended}
+use Rattle.comma.proofs.StrictLaws.{tenths_cases}
 
 -- ---- one field
 

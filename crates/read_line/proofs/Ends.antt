@@ -18,7 +18,7 @@ use Rattle.numerals.specs.declared.Form.TheVariants.{Decimal, Cas}
 use Rattle.numerals.specs.declared.Number.{Number}
 use Rattle.numerals.specs.declared.Number.TheVariants as number
 use Rattle.numerals.specs.Numerals.{value_in, most_of, Within}
-use Rattle.numerals.specs.Laws.{within}
+use Rattle.numerals.proofs.Laws.{within}
 use Rattle.comma.specs.declared.Codes.{Codes}
 use Rattle.comma.specs.declared.Amounts.{Amounts}
 use Rattle.comma.specs.declared.Taken.{Taken}
@@ -31,8 +31,8 @@ use Rattle.comma.specs.declared.Line.{Line}
 use Rattle.comma.specs.declared.Line.TheVariants as line
 use Rattle.comma.specs.Line.{fields_in, tenths_form, lasts_in, amounts_in, codes_in, longest_line, line_of}
 use Rattle.comma.specs.Stages.{placed, end_at, taken_at, CodesTold, AmountsTold}
-use Rattle.comma.specs.StageLaws.{taken_ended, taken_unended, taken_is, taken_not, remark_is, remark_not}
-use Rattle.comma.specs.StrictLaws.{tenths_most}
+use Rattle.comma.proofs.StageLaws.{taken_ended, taken_unended, taken_is, taken_not, remark_is, remark_not}
+use Rattle.comma.proofs.StrictLaws.{tenths_most}
 
 -- ---- one field
 

@@ -9,12 +9,12 @@ use lib.ListN.{length, drop}
 use lib.Seq.{sets}
 use borrow.Author.Tests.{lt-ltb, le-ltb}
 use Rattle.search.specs.Laws.{clash}
-use Rattle.buffer.specs.Laws.{sets_behind, written_first}
+use Rattle.buffer.proofs.Laws.{sets_behind, written_first}
 use Rattle.fields.specs.declared.Fields.{Fields}
 use Rattle.refusals.specs.declared.Refusal.TheVariants as refusal
 use Rattle.comma.specs.declared.Converted.TheVariants as converted
 use Rattle.comma.specs.Text.{Cards, cards, bad, cards_in, bytes_of, size_of, header_bytes, register_of, bad_room, read_as, reading_of, filled_with, read_into}
-use Rattle.comma.specs.CardLaws.{header_length, register_length}
+use Rattle.comma.proofs.CardLaws.{header_length, register_length}
 use Rattle.count_lines.specs.declared.Lines.{Lines}
 use Rattle.count_lines.specs.declared.Lines.TheVariants as lines
 use Rattle.count_lines.specs.Count.{count_from, bad_line}

@@ -6,13 +6,13 @@ use Rattle.std.specs.Prelude.{◌≡◌, refl, List, [], ◌∷◌, length, take
 use Rattle.std.proofs.Math.Path.{sym}
 use Rattle.std.proofs.lemmas.List.Edits.{sets}
 use Rattle.search.specs.Laws.{clash, lt_or_ge}
-use Rattle.buffer.specs.Laws.{sets_append}
+use Rattle.buffer.proofs.Laws.{sets_append}
 use Rattle.pieces.specs.Pieces.{before}
 use Rattle.fields.specs.declared.Fields.{Fields}
 use Rattle.comma.specs.declared.Line.{Line}
 use Rattle.comma.specs.declared.Line.TheVariants as line
 use Rattle.comma.specs.Line.{line_of}
-use Rattle.comma.specs.CardLaws.{card_length}
+use Rattle.comma.proofs.CardLaws.{card_length}
 use Rattle.comma.specs.Text.{Cards, cards, bad, joined, cards_in, card_bytes, bytes_of}
 use Rattle.count_lines.specs.declared.Lines.{Lines}
 use Rattle.count_lines.specs.declared.Lines.TheVariants as lines

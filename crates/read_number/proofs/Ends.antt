@@ -14,7 +14,7 @@ use Rattle.numerals.specs.declared.Number.{Number}
 use Rattle.numerals.specs.declared.Number.TheVariants as number
 use Rattle.spaces.specs.Spaces.{bare}
 use Rattle.numerals.specs.Numerals.{read_on, number_in, hyphened, unhyphened, cas_in, heat_in, value_of, value_in}
-use Rattle.numerals.specs.Runs.{runs_on, runs_out}
+use Rattle.numerals.proofs.Runs.{runs_on, runs_out}
 
 -- ---- a CAS number
 

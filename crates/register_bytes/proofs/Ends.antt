@@ -9,7 +9,7 @@ use lib.ListN.{length, set}
 use lib.Seq.{sets}
 use Rattle.buffer.specs.Numbers.{two_bytes, four_bytes}
 use Rattle.buffer.specs.Wrote.{Wrote}
-use Rattle.buffer.specs.Laws.{sets_behind, length_two, length_four}
+use Rattle.buffer.proofs.Laws.{sets_behind, length_two, length_four}
 use Rattle.fields.specs.declared.Fields.{Fields}
 use Rattle.comma.specs.Text.{card_bytes, header_bytes}
 use Rattle.register_bytes.specs.Parts.{code_bytes, amount_bytes, last_bytes}

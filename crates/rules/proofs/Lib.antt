@@ -1,2 +1,4 @@
 mod Scaled
 pub mod Means
+pub mod Closest
+pub mod Laws

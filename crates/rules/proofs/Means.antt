@@ -13,7 +13,7 @@ use Rattle.search.specs.Laws.{first_within}
 use Rattle.rules.specs.Printed.{Range}
 use Rattle.rules.specs.Rules.{distance, in_use, larger, thousandths, closest_row, last_of, answered, by_row, holding, mark_of, by_range}
 use Rattle.rules.specs.Cuts.{cuts, climbs, uppers, scaled}
-use Rattle.rules.specs.Laws.{row_by_cuts, holding_by_bounds, never_past}
+use Rattle.rules.proofs.Laws.{row_by_cuts, holding_by_bounds, never_past}
 use Rattle.rules.specs.Carried.{running, in_use_at}
 
 -- Tables 1 to 4: the bounds, and the entries in use with the open range's last

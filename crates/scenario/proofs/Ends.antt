@@ -35,8 +35,8 @@ use Rattle.factors.specs.declared.Column.{Column}
 use Rattle.factors.specs.declared.Factors.{Factors}
 use Rattle.factors.specs.declared.Factors.TheVariants.{Read, Missing}
 use Rattle.factors.specs.Factors.{column_of, factors_of}
-use Rattle.factors.specs.Laws.{FactorsWithin, factors_within}
-use Rattle.exhibits.specs.Laws.{Within}
+use Rattle.factors.proofs.Laws.{FactorsWithin, factors_within}
+use Rattle.exhibits.proofs.Laws.{Within}
 use Rattle.exhibits.specs.declared.Toxic.TheVariants as variants
 use Rattle.scenario.specs.Plan.{vapor_of, pool_of, undiked, pooled, gas_plan, column_in, liquid_plan, solution_plan, factored, plan_for, plan_of}
 

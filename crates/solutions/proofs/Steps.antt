@@ -17,11 +17,11 @@ use Rattle.exhibits.specs.declared.Toxic.{Toxic}
 use Rattle.exhibits.specs.declared.Toxic.TheVariants.{OfGas, OfLiquid, OfSolution, OutOfRange, NotListed}
 use Rattle.exhibits.specs.Printed.{SolutionLine, solution}
 use Rattle.exhibits.specs.Lines.{kind_of, line_of, solution_from}
-use Rattle.exhibits.specs.Back.{solution_back, none_back}
+use Rattle.exhibits.proofs.Back.{solution_back, none_back}
 use Rattle.solutions.specs.PrintedB3.{b3}
 use Rattle.solutions.specs.Solutions.{solution_cas, percent_of, lines_of, Found, none, found, lower, lowest, highest, bad_percent, line_read, unless_out, solution_of}
 use Rattle.solutions.specs.Lines.{read_at}
-use Rattle.solutions.specs.SolutionLaws.{Rightly, lowest_right, under_highest}
+use Rattle.solutions.proofs.SolutionLaws.{Rightly, lowest_right, under_highest}
 
 -- two concentrations that every line of a list tells alike read the same
 alike : (a b : ℕ) (test : ℕ → Bool) → ((p : ℕ) → test p ≡ true → leb a p ≡ leb b p) → (lines : List SolutionLine) → every (λ l. test (percent_of l)) lines ≡ true → lowest a lines ≡ lowest b lines

@@ -1,4 +1,3 @@
 pub mod PrintedB3
 pub mod Solutions
 pub mod Lines
-pub mod SolutionLaws

@@ -3,7 +3,7 @@
 use Prim.Native.Nat.{ℕ}
 use mathlib.Core.List.{List, [], ◌∷◌, ◌++◌, append_assoc}
 use Rattle.buffer.specs.Wrote.{Wrote}
-use Rattle.buffer.specs.Laws.{joined}
+use Rattle.buffer.proofs.Laws.{joined}
 use Rattle.decimal.specs.Decimal.{digits}
 use Rattle.pieces.specs.Pieces.{closed}
 use Rattle.fields.specs.declared.Fields.{Fields}

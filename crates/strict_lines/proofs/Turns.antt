@@ -9,7 +9,7 @@ use mathlib.Core.List.{List, [], ◌∷◌, ◌++◌}
 use lib.ListN.{length, take, drop, length-append}
 use lib.Seq.{sets}
 use Rattle.buffer.specs.Wrote.{Wrote}
-use Rattle.buffer.specs.Laws.{joined, written_whole}
+use Rattle.buffer.proofs.Laws.{joined, written_whole}
 use Rattle.fields.specs.declared.Fields.{Fields}
 use Rattle.fields.specs.Layout.{fields_of}
 use Rattle.comma.specs.Strict.{strict_line}

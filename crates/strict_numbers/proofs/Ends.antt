@@ -5,10 +5,10 @@ use mathlib.Core.Path.{◌≡◌}
 use mathlib.Core.List.{List, [], ◌∷◌, ◌++◌, append_assoc}
 use borrow.Author.Tests.{lt-ltb, le-ltb}
 use Rattle.buffer.specs.Wrote.{Wrote}
-use Rattle.buffer.specs.Laws.{joined}
+use Rattle.buffer.proofs.Laws.{joined}
 use Rattle.decimal.specs.Decimal.{digits, padded}
 use Rattle.comma.specs.Strict.{cas_text, heat_text, tenths_text}
-use Rattle.comma.specs.StrictLaws.{tenths_cases}
+use Rattle.comma.proofs.StrictLaws.{tenths_cases}
 use Rattle.strict_numbers.specs.Parts.{cas_end}
 
 -- the two bytes by their state: a concentration as it is, else a temperature

@@ -9,7 +9,7 @@ use mathlib.Core.List.{List, ◌++◌}
 use lib.ListN.{length, take, drop}
 use lib.Seq.{sets, drop-drop}
 use Rattle.buffer.specs.Wrote.{Wrote}
-use Rattle.buffer.specs.Laws.{sets_append}
+use Rattle.buffer.proofs.Laws.{sets_append}
 use Rattle.refusals.specs.declared.Refusal.{Refusal}
 use Rattle.card.specs.declared.Answer.{Answer}
 use Rattle.encode.specs.Bytes.{answer_bytes}
@@ -19,7 +19,7 @@ use Rattle.running.specs.declared.Running.{Running}
 use Rattle.running.specs.declared.Stepped.{Stepped}
 use Rattle.running.specs.declared.Stepped.TheVariants as stepped
 use Rattle.running.specs.Running.{before_cards, step_of}
-use Rattle.running.specs.Laws.{on_place}
+use Rattle.running.proofs.Laws.{on_place}
 use Rattle.walk.specs.declared.Walked.{Walked}
 use Rattle.walk.specs.declared.Walked.TheVariants as walked
 use Rattle.walk.specs.declared.Writes.{Writes}

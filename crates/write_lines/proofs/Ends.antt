@@ -12,7 +12,7 @@ use lib.Seq.{sets}
 use borrow.Author.Tests.{lt-ltb, le-ltb}
 use Rattle.search.specs.Laws.{clash}
 use Rattle.buffer.specs.Numbers.{two_at}
-use Rattle.buffer.specs.Laws.{written_first}
+use Rattle.buffer.proofs.Laws.{written_first}
 use Rattle.refusals.specs.declared.Refusal.{Refusal}
 use Rattle.refusals.specs.declared.Refusal.TheVariants as refusal
 use Rattle.farthest.specs.declared.Leaders.{Leaders}
@@ -23,7 +23,7 @@ use Rattle.header.proofs.Ends.{header_fits}
 use Rattle.walk.specs.declared.Outcome.{Outcome}
 use Rattle.walk.specs.declared.Outcome.TheVariants as outcome
 use Rattle.cards.specs.Register.{after_header, outcome_of}
-use Rattle.cards.specs.Laws.{behind_header}
+use Rattle.cards.proofs.Laws.{behind_header}
 use Rattle.comma.specs.declared.Converted.{Converted}
 use Rattle.comma.specs.declared.Converted.TheVariants as converted
 use Rattle.strict_lines.specs.Walk.{lines_to}

@@ -1,6 +1,6 @@
 -- `combustion::heat_of` meets its contract: it is the arm's number, and no heat is above 150,000. Assumes nothing.
 use native.Mathlib.Omega.{arith}
-use Rattle.combustion.specs.Laws.{heat_within}
+use Rattle.combustion.proofs.Laws.{heat_within}
 use Rattle.combustion.proofs.heat_of.Goals as goal
 
 pub returns : goal.returns

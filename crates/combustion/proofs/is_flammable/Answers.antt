@@ -2,7 +2,7 @@
 use mathlib.Core.Path.{ap, ◌∙◌}
 use Prim.Native.Nat.{ℕ}
 use lib.Dec.{ltb}
-use Rattle.combustion.specs.Laws.{listed}
+use Rattle.combustion.proofs.Laws.{listed}
 use Rattle.combustion.proofs.is_flammable.Goals as goal
 
 pub returns : goal.returns

@@ -1,6 +1,6 @@
 use native.Mathlib.Omega.{arith}
 use Rattle.decimal.specs.Decimal.{digits}
-use Rattle.decimal.specs.Laws.{digits_some, digits_twenty}
+use Rattle.decimal.proofs.Laws.{digits_some, digits_twenty}
 use Rattle.decimal.proofs.Turns.{count_small, count_more}
 use Rattle.decimal.proofs.digit_count.Goals as goal
 

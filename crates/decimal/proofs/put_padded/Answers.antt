@@ -2,7 +2,7 @@ use mathlib.Core.Path.{refl, sym, ◌∙◌}
 use native.Mathlib.Omega.{arith}
 use lib.ListN.{length, length-set}
 use Rattle.decimal.specs.Decimal.{padded}
-use Rattle.decimal.specs.Laws.{length_padded}
+use Rattle.decimal.proofs.Laws.{length_padded}
 use Rattle.decimal.proofs.Turns.{digit_turn, digit_end}
 use Rattle.decimal.proofs.put_padded.Goals as goal
 

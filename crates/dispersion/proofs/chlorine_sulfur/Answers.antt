@@ -4,7 +4,7 @@ use native.Mathlib.Omega.{arith}
 use Rattle.dispersion.specs.PrintedChemical.{table11, table12}
 use Rattle.rules.specs.Rules.{distance, larger, thousandths, last_of}
 use Rattle.dispersion.specs.Tables.{tables, reading_of}
-use Rattle.dispersion.specs.Laws.{reading_none}
+use Rattle.dispersion.proofs.Laws.{reading_none}
 use Rattle.rules.specs.Cuts.{cuts, cuts_from, climbs, climbs_from}
 use Rattle.rules.specs.Carried.{running}
 use Rattle.dispersion.proofs.Means.{lines_means}

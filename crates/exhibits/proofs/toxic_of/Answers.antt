@@ -1,7 +1,7 @@
 -- `exhibits::toxic_of` meets its contract: the line of a CAS number says whether it is a gas, a liquid or neither, and what is
 -- read back from it is what the exhibits print. Assumes nothing.
 use borrow.Author.Rules.{rules}
-use Rattle.exhibits.specs.Back.{gas_is, liquid_is, none_is}
+use Rattle.exhibits.proofs.Back.{gas_is, liquid_is, none_is}
 use Rattle.exhibits.proofs.toxic_of.Goals as goal
 
 pub returns-then-line-eq1 : goal.returns-then-line-eq1

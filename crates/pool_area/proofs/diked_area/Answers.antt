@@ -1,4 +1,4 @@
-use Rattle.pool_area.specs.Laws.{full_below, held_below, diked_closed}
+use Rattle.pool_area.proofs.Laws.{full_below, held_below, diked_closed}
 use Rattle.pool_area.specs.Pool.{full_area}
 use Prim.Native.Nat.{◌<◌, ◌^◌}
 use native.Mathlib.Omega.{arith}

@@ -1,4 +1,4 @@
-use Rattle.pool_area.specs.Laws.{full_below}
+use Rattle.pool_area.proofs.Laws.{full_below}
 use native.Mathlib.Omega.{arith}
 use Rattle.pool_area.proofs.full_area.Goals as goal
 

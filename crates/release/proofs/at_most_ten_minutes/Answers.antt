@@ -1,4 +1,4 @@
-use Rattle.release.specs.Laws.{ten_minutes}
+use Rattle.release.proofs.Laws.{ten_minutes}
 use Rattle.release.proofs.at_most_ten_minutes.Goals as goal
 
 pub returns : goal.returns

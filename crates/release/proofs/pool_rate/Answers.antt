@@ -1,4 +1,4 @@
-use Rattle.release.specs.Laws.{product_below}
+use Rattle.release.proofs.Laws.{product_below}
 use Rattle.release.specs.Rates.{pool_rate}
 use native.Mathlib.Omega.{arith}
 use Rattle.release.proofs.pool_rate.Goals as goal

@@ -1,6 +1,6 @@
 -- `rules::answer` meets its contract: its ways are those of the definition. Assumes nothing.
 use mathlib.Core.Path.{sym}
-use Rattle.rules.specs.Laws.{answered_within, answered_limit, answered_beyond}
+use Rattle.rules.proofs.Laws.{answered_within, answered_limit, answered_beyond}
 use Rattle.rules.proofs.answer.Goals as goal
 use Rattle.rules.proofs.answer.Goals.{then-rate-last-via-then-rate-last, then-rate-last-via-else-rate-last+then-entry-eq-MILE_LIMIT}
 

@@ -1,4 +1,4 @@
-use Rattle.pool_area.specs.Laws.{area_limit}
+use Rattle.pool_area.proofs.Laws.{area_limit}
 use Rattle.scenario.proofs.Ends.{pool_end}
 use Rattle.scenario.proofs.pool.Goals as goal
 

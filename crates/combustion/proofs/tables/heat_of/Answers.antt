@@ -5,7 +5,7 @@ use Rattle.search.specs.Arms.{arm}
 use Rattle.search.specs.Places.{look_up}
 use Rattle.combustion.specs.PrintedC1.{c1}
 use Rattle.combustion.specs.Heats.{heat_of}
-use Rattle.combustion.specs.Laws.{no_heat}
+use Rattle.combustion.proofs.Laws.{no_heat}
 use Rattle.combustion.proofs.tables.heat_of.Goals as goal
 
 pub returns-in-75070 : goal.returns-in-75070

@@ -8,7 +8,7 @@ use Rattle.exhibits.specs.PrintedB2.{b2}
 use Rattle.exhibits.specs.PrintedB4.{b4}
 use Rattle.exhibits.specs.Exhibits.{factors_of, toxic_of}
 use Rattle.exhibits.specs.Lines.{line_of}
-use Rattle.exhibits.specs.Laws.{no_line}
+use Rattle.exhibits.proofs.Laws.{no_line}
 use Rattle.exhibits.proofs.tables.line_of.Goals as goal
 
 pub returns-in-7664417 : goal.returns-in-7664417

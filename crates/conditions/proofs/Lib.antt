@@ -1,0 +1,9 @@
+pub mod Beyond
+pub mod Cards
+pub mod Exactly
+pub mod Form
+pub mod Mismatch
+pub mod Substances
+pub mod Tables
+pub mod Vessel
+pub mod Led

@@ -1,0 +1,2 @@
+pub mod LinesExactly
+pub mod LinesPlain

@@ -1,0 +1,180 @@
+-- The reader and the writer of comma lines go exactly by their tables.
+-- Assumes nothing.
+use Prim.Native.Nat.{ℕ, zero, suc, ◌+◌, ◌<◌, zero-le, suc-le-suc}
+use Rattle.std.proofs.Common.{le_of_suc-le-suc, not-suc-le-zero, arith, ◌∙◌, sym, ap₂, inl, inr, lt-ltb}
+use Rattle.std.specs.Prelude.{◌≡◌, Bool, not, List, [], ◌∷◌, ◌++◌, ◌⊎◌, eqb, ltb, length, get_or}
+use Rattle.std.proofs.Math.Path.{refl, ap, subst}
+use Rattle.std.proofs.Math.Bool.{true, false}
+use Rattle.std.proofs.Math.Dec.{leb-suc-zero, leb-suc-suc}
+use Rattle.std.proofs.lemmas.Bool.{not-true}
+use Rattle.search.specs.Rising.{both}
+use Rattle.search.specs.Laws.{clash, both_true}
+use Rattle.refusals.specs.declared.Refusal.{Refusal}
+use Rattle.refusals.specs.declared.Refusal.TheVariants as refusal
+use Rattle.header.specs.Header.{enough}
+use Rattle.walk.specs.declared.Outcome.{Outcome}
+use Rattle.walk.specs.declared.Outcome.TheVariants as outcome
+use Rattle.cards.specs.Register.{outcome_of}
+use Rattle.fields.specs.declared.Fields.{Fields}
+use Rattle.comma.specs.declared.Line.{Line}
+use Rattle.comma.specs.declared.Line.TheVariants as line
+use Rattle.comma.specs.declared.Converted.{Converted}
+use Rattle.comma.specs.declared.Converted.TheVariants as converted
+use Rattle.comma.specs.Line.{line_of}
+use Rattle.comma.specs.Text.{Cards, cards, bad, then, cards_from, cards_in, lines_of, bad_room, size_of, read_as, reading_of}
+use Rattle.write_lines.specs.Writing.{strict_text, answer_as, writing_of}
+use Rattle.conditions.specs.Conditions.{Condition, condition, only, conditions_at}
+use Rattle.conditions.specs.First.{passed, refused, pick, first_of, after, after_passed, first_append}
+use Rattle.line_conditions.specs.Lines.{malformed, bad_line, all_formed, no_room_to_read, no_room_to_write, room_at, lines_at, writing_at}
+use Rattle.conditions.specs.Claim.{ExactlyBy}
+use Rattle.conditions.proofs.Tables.{Passes, Refuses, exactly_by}
+use Rattle.line_conditions.specs.LinesClaim.{ReadExactly, WrittenExactly}
+use Rattle.conditions.proofs.Exactly.{Told as RegisterTold, told as register-told}
+
+-- ---- what either call answers, in terms of its table
+
+abbrev Told : (ℕ → List Condition) → Converted → Type 0
+Told table (converted.Bytes n) = Passes table
+Told table (converted.Refused r place) = Refuses table r place
+
+pub ends : (c : Converted) → ((n : ℕ) × (c ≡ converted.Bytes n)) ⊎ ((r : Refusal) × (place : ℕ) × (c ≡ converted.Refused r place))
+ends (converted.Bytes n) = inl (n, refl)
+ends (converted.Refused r place) = inr (r, place, refl)
+
+told_exactly : (table : ℕ → List Condition) (c : Converted) → Told table c → ExactlyBy table (λ r place. c ≡ converted.Refused r place) ((n : ℕ) × (c ≡ converted.Bytes n))
+told_exactly table c t =
+    exactly_by table (λ r place. c ≡ converted.Refused r place) ((n : ℕ) × (c ≡ converted.Bytes n)) (ends c)
+    (λ a. subst (Told table) a.1 t)
+    (λ r place e. subst (Told table) e t)
+
+-- ---- 13 behind the conditions of a table
+
+module _ (table : ℕ → List Condition) where
+  abbrev further : Bool → ℕ → List Condition
+  further full place = table place ++ room_at full place
+
+  -- where 13 does not hold, a place comes to what it came to
+  silent : (place : ℕ) → first_of (room_at false place) ≡ passed
+  unfolding room_at only first_of
+  silent place = go (eqb place 0)
+    where
+      go : (here : Bool) → pick (both here false) refusal.Room passed ≡ passed
+      go true = refl
+      go false = refl
+
+  as_before : (place : ℕ) → first_of (further false place) ≡ first_of (table place)
+  as_before place =
+      first_append (table place) (room_at false place)
+      ∙ (ap (after (first_of (table place))) (silent place) ∙ after_passed (first_of (table place)))
+
+  still_refuses : (r : Refusal) (place : ℕ) → Refuses table r place → Refuses (further false) r place
+  still_refuses r place t = (as_before place ∙ t.0, λ p h. as_before p ∙ t.1 p h)
+
+  -- where nothing else holds, 13 alone decides
+  found_last : (full : Bool) (n : ℕ) → Passes table → Told (further full) (elim full as (λ _. Converted) [ true ↦ converted.Refused refusal.Room 0 | false ↦ converted.Bytes n ])
+  unfolding room_at only first_of
+  found_last true n t =
+      (first_append (table 0) (room_at true 0) ∙ ap (λ v. after v (refused refusal.Room)) (t 0), λ p h. absurd (not-suc-le-zero h))
+  found_last false n t = λ p. as_before p ∙ t p
+
+-- ---- the reader
+
+-- a line's number, seen from the line before
+pub bad_here : (text : List ℕ) (rest : List (List ℕ)) → bad_line (text ∷ rest) 1 ≡ malformed (line_of text)
+unfolding bad_line
+bad_here text rest = ap (λ t. both t (malformed (line_of text))) (lt-ltb 0 (suc (length rest)) (suc-le-suc zero-le))
+
+pub bad_behind : (text : List ℕ) (rest : List (List ℕ)) (i : ℕ) → bad_line (text ∷ rest) (suc (suc i)) ≡ bad_line rest (suc i)
+unfolding bad_line
+bad_behind text rest i = ap (λ t. both t (malformed (line_of (get_or rest i [])))) (leb-suc-suc (suc i) (length rest))
+
+-- where all lines are well formed, none is bad
+pub none_bad : (lines : List (List ℕ)) → all_formed lines ≡ true → (number : ℕ) → bad_line lines number ≡ false
+unfolding all_formed bad_line
+none_bad lines e zero = refl
+none_bad [] e (suc i) = ap (λ t. both t (malformed (line_of (get_or [] i [])))) (leb-suc-zero i)
+none_bad (text ∷ rest) e (suc zero) = bad_here text rest ∙ not-true (malformed (line_of text)) (both_true (not (malformed (line_of text))) (all_formed rest) e).0
+none_bad (text ∷ rest) e (suc (suc i)) = bad_behind text rest i ∙ none_bad rest (both_true (not (malformed (line_of text))) (all_formed rest) e).1 (suc i)
+
+-- so where one is bad, not all are well formed
+pub not_formed : (lines : List (List ℕ)) (number : ℕ) → bad_line lines number ≡ true → all_formed lines ≡ false
+not_formed lines number h = go (all_formed lines) refl
+  where
+    go : (t : Bool) → all_formed lines ≡ t → t ≡ false
+    go true e = let n = none_bad lines e number in clash (cc)
+    go false e = refl
+
+-- what lines come to: as many cards, or the first line that is bad
+abbrev Read : ℕ → List (List ℕ) → Cards → Type 0
+Read k lines (cards xs) = (length xs ≡ length lines) × (all_formed lines ≡ true)
+Read k lines (bad j) = (i : ℕ) × (j ≡ k + i) × (bad_line lines (suc i) ≡ true) × ((p : ℕ) → p < i → bad_line lines (suc p) ≡ false)
+
+read : (k : ℕ) (lines : List (List ℕ)) → Read k lines (cards_from k lines)
+unfolding cards_from all_formed
+read k [] = (refl, refl)
+read k (text ∷ rest) = go (line_of text) refl (cards_from (suc k) rest) (read (suc k) rest)
+  where
+    -- a well-formed line in front of others
+    over : (f : Fields) (n : ℕ) → line_of text ≡ line.Card f → ((p : ℕ) → p < n → bad_line rest (suc p) ≡ false) → (p : ℕ) → p < suc n → bad_line (text ∷ rest) (suc p) ≡ false
+    over f n e before zero h = bad_here text rest ∙ ap malformed e
+    over f n e before (suc p) h = bad_behind text rest p ∙ before p (le_of_suc-le-suc h)
+
+    go : (l : Line) → line_of text ≡ l → (c : Cards) → Read (suc k) rest c → Read k (text ∷ rest) (then l k c)
+    go (line.Card f) e (cards xs) t = (ap suc t.0, ap₂ (λ l a. both (not (malformed l)) a) e t.1)
+    go (line.Card f) e (bad j) t = (suc t.0, omega (arith, t.1), bad_behind text rest t.0 ∙ t.2, over f t.0 e t.3)
+    go line.Malformed e c t = (0, omega arith, bad_here text rest ∙ ap malformed e, λ p h. absurd (not-suc-le-zero h))
+
+module _ (text : List ℕ) where
+  -- 12 alone
+  abbrev line_at : ℕ → List Condition
+  line_at place = condition refusal.Line (bad_line (lines_of text) place) ∷ []
+
+  line_passes : (place : ℕ) → bad_line (lines_of text) place ≡ false → first_of (line_at place) ≡ passed
+  unfolding first_of
+  line_passes place e = ap (λ t. pick t refusal.Line passed) e
+
+  line_refuses : (i : ℕ) → bad_line (lines_of text) (suc i) ≡ true → ((p : ℕ) → p < i → bad_line (lines_of text) (suc p) ≡ false) → Refuses line_at refusal.Line (suc i)
+  unfolding first_of bad_line
+  line_refuses i e before = (ap (λ t. pick t refusal.Line passed) e, earlier)
+    where
+      earlier : (p : ℕ) → p < suc i → first_of (line_at p) ≡ passed
+      earlier zero h = refl
+      earlier (suc p) h = line_passes (suc p) (before p (le_of_suc-le-suc h))
+
+  reading_told : (room : ℕ) (c : Cards) → Read 1 (lines_of text) c → Told (further line_at (no_room_to_read (lines_of text) room)) (read_as c room)
+  unfolding no_room_to_read
+  reading_told room (cards xs) t =
+      let e : no_room_to_read (lines_of text) room ≡ bad_room (length xs) room = cc in
+      subst (λ full. Told (further line_at full) (read_as (cards xs) room)) (sym e)
+      (found_last line_at (bad_room (length xs) room) (size_of (length xs)) (λ p. line_passes p (none_bad (lines_of text) t.1 p)))
+  reading_told room (bad j) t =
+      let e : no_room_to_read (lines_of text) room ≡ false = cc (not_formed (lines_of text) (suc t.0) t.2) in
+      let n : suc t.0 ≡ j = omega (arith, t.1) in
+      subst (λ full. Refuses (further line_at full) refusal.Line j) (sym e)
+      (still_refuses line_at refusal.Line j (subst (Refuses line_at refusal.Line) n (line_refuses t.0 t.2 t.3)))
+
+  read_told : (room : ℕ) → Told (lines_at text room) (reading_of text room)
+  unfolding lines_at reading_of cards_in
+  read_told room = reading_told room (cards_in text) (read 1 (lines_of text))
+
+pub read_exactly : ReadExactly
+read_exactly text room = told_exactly (lines_at text room) (reading_of text room) (read_told text room)
+
+-- ---- the writer
+
+module _ (register : List ℕ) (room : ℕ) where
+  -- the register's own conditions
+  abbrev own : ℕ → List Condition
+  own = conditions_at register enough
+
+  writing_told : (o : Outcome) → RegisterTold register enough o → Told (further own (no_room_to_write o (strict_text register) room)) (answer_as o (strict_text register) room)
+  unfolding no_room_to_write
+  writing_told (outcome.Accepted l) t = found_last own (ltb room (length (strict_text register))) (length (strict_text register)) t
+  writing_told (outcome.Refused r place) t = still_refuses own r place t
+
+  written_told : Told (writing_at register room) (writing_of register room)
+  unfolding writing_at writing_of
+  written_told = writing_told (outcome_of register enough) (register-told register enough)
+
+pub written_exactly : WrittenExactly
+written_exactly register room = told_exactly (writing_at register room) (writing_of register room) (written_told register room)

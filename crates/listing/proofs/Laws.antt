@@ -1,0 +1,91 @@
+-- The walk that writes lines comes to the lines of the cards and the leaders, and the outcome of a register to its text.
+-- Assumes nothing.
+use Rattle.std.specs.Prelude.{ℕ, ◌-◌, ◌≤◌, ◌≡◌, refl, List, [], ◌∷◌, ◌++◌, length, take, drop}
+use Rattle.std.proofs.Common.{arith, ◌∙◌, ap₂, sym, subst, length-take}
+use Rattle.std.proofs.Math.Path.{ap}
+use Rattle.search.specs.Laws.{clash}
+use Rattle.refusals.specs.declared.Refusal.{Refusal}
+use Rattle.refusals.specs.Numbers.{number_of}
+use Rattle.card.specs.declared.Answer.{Answer}
+use Rattle.header.specs.declared.Header.{Header}
+use Rattle.header.specs.declared.Header.TheVariants as header
+use Rattle.header.specs.Header.{enough, header_of}
+use Rattle.walk.specs.declared.Outcome.{Outcome}
+use Rattle.walk.specs.declared.Outcome.TheVariants as outcome
+use Rattle.running.specs.declared.Running.{Running}
+use Rattle.running.specs.Running.{before_cards}
+use Rattle.walk.specs.declared.Walked.TheVariants as walked
+use Rattle.walk.specs.declared.Writes.TheVariants as writes
+use Rattle.walk.specs.Walk.{texts_of, walk_from, text_from}
+use Rattle.cards.specs.Register.{Cards, answers, sent_back, cards_from, cards_of, result_of, after_header, outcome_of}
+use Rattle.cards.proofs.Laws.{behind_header}
+use Rattle.cards.proofs.Walked.{Passed, passed_leaders, stopped}
+use Rattle.lines.specs.Lines.{card_line}
+use Rattle.closing.specs.Closing.{refused_line}
+use Rattle.listing.specs.declared.Listed.{Listed}
+use Rattle.listing.specs.declared.Listed.TheVariants as listed
+use Rattle.listing.specs.Listing.{card_lines, leader_lines, listing_of, listed_after, Within}
+
+-- the register is accepted
+abbrev pub IsAccepted : Outcome → Type 0
+IsAccepted (outcome.Accepted l) = Unit {0}
+IsAccepted (outcome.Refused r place) = ⊥
+
+-- what the walk writes are the lines of the cards
+texts_lines : (xs : List Answer) → texts_of writes.Lines xs ≡ card_lines xs
+unfolding texts_of card_lines
+texts_lines [] = refl
+texts_lines (a ∷ xs) = ap (λ text. card_line a ++ text) (texts_lines xs)
+
+refused_text : (c : Cards) {r : Refusal} {place : ℕ} → result_of c ≡ outcome.Refused r place → refused_line (number_of r) place ≡ listing_of c
+refused_text (answers xs) e = let z : ◌≡◌ {A = ℕ} 0 1 = cc in clash z
+refused_text (sent_back r place) e = cc
+
+-- a good header: what the walk behind it writes and ends with
+module _ (bytes : List ℕ) (n : ℕ) (good : header_of bytes enough ≡ header.Good n) where
+  -- the cards as the code takes them
+  abbrev Rest : List ℕ
+  Rest = take (length bytes - 7) (drop 7 bytes)
+
+  rest_cards : cards_from n 0 0 Rest ≡ cards_of n bytes
+  unfolding cards_of
+  rest_cards = ap (cards_from n 0 0) (behind_header bytes)
+
+  -- an accepted register prints its cards and then its leaders
+  pub accepted_text : (t : Running) (size : ℕ) → Passed writes.Lines n before_cards Rest t size → text_from writes.Lines n before_cards Rest ++ leader_lines t.leaders ≡ listed_after (header_of bytes enough) bytes
+  accepted_text t size p =
+      ap₂ (λ text l. text ++ leader_lines l) (p.text ∙ texts_lines p.list) (passed_leaders writes.Lines n Rest t size p)
+      ∙ (ap listing_of (sym p.cards ∙ rest_cards) ∙ ap (λ h. listed_after h bytes) (sym good))
+
+  -- its walk stops at no card
+  pub accepted_walk : {A : Type 0} (r : Refusal) (place : ℕ) → IsAccepted (outcome_of bytes enough) → walk_from writes.Lines n before_cards 0 Rest ≡ walked.Refused r place → A
+  unfolding outcome_of
+  accepted_walk r place o e =
+      absurd
+      (subst IsAccepted
+      (ap (λ h. after_header h bytes) good
+      ∙ ap result_of (sym rest_cards ∙ stopped writes.Lines n before_cards Rest r place e))
+      o)
+
+module _ (bytes : List ℕ) where
+  -- a refused header is never accepted
+  pub accepted_header : {A : Type 0} {r : Refusal} → IsAccepted (outcome_of bytes enough) → header_of bytes enough ≡ header.Refused r → A
+  unfolding outcome_of
+  accepted_header o e = absurd (subst IsAccepted (ap (λ h. after_header h bytes) e) o)
+
+  -- and a register that is sent back prints why
+  pub sent_back_text : {r : Refusal} {place : ℕ} → outcome_of bytes enough ≡ outcome.Refused r place → refused_line (number_of r) place ≡ listed_after (header_of bytes enough) bytes
+  unfolding outcome_of
+  sent_back_text {r} {place} q = go (header_of bytes enough) q
+    where
+      go : (h : Header) → after_header h bytes ≡ outcome.Refused r place → refused_line (number_of r) place ≡ listed_after h bytes
+      go (header.Good n) p = refused_text (cards_of n bytes) p
+      go (header.Refused s) p = cc
+
+-- ---- what a caller shows who prints the text: it is a part of the buffer, from its start
+
+pub text_part : (room n : ℕ) {x : Listed} → x ≡ listed.Text n → Within room x → n ≤ room
+text_part room n e w = subst (Within room) e w
+
+pub part_length : (n : ℕ) (bytes : List ℕ) → n ≤ length bytes → n ≡ length (take n bytes)
+part_length n bytes h = omega (arith, length-take n bytes)
