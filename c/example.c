@@ -2,8 +2,8 @@
  * Prints the answers of a register: of the file that is named, or of the three cards of document 01. A line a card, the
  * farthest toxic card, the farthest flammable one; then who led after no card, after the first, and so on to the last.
  *
- *     rt staticlib rings_c
- *     gcc -std=c11 -Wall -Wextra -O2 c/example.c target/staticlib/librings_c.a -o target/example && target/example [FILE]
+ *     (cd crates/rings_c && rt lib) && mkdir -p target
+ *     gcc -std=c11 -Wall -Wextra -O2 c/example.c crates/rings_c/out/librings_c.a -o target/example && target/example [FILE]
  */
 #include "rings.h"
 

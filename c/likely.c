@@ -1,8 +1,8 @@
 /*
  * The likely distance of a card, at a rate and a duration that are supplied. The card is a comma line on standard input:
  *
- *     rt staticlib rings_c
- *     gcc -std=c11 -Wall -Wextra -O2 c/likely.c target/staticlib/librings_c.a -o target/likely
+ *     (cd crates/rings_c && rt lib) && mkdir -p target
+ *     gcc -std=c11 -Wall -Wextra -O2 c/likely.c crates/rings_c/out/librings_c.a -o target/likely
  *     target/likely THOUSANDTHS MINUTES <LINE
  *
  * Prints the table, how the distance was found, miles rounded up to a hundredth, and the bits of the float. A refusal is

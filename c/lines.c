@@ -1,8 +1,8 @@
 /*
  * Comma lines into a register, and a register into comma lines in strict form: standard input to standard output.
  *
- *     rt staticlib rings_c
- *     gcc -std=c11 -Wall -Wextra -O2 c/lines.c target/staticlib/librings_c.a -o target/lines
+ *     (cd crates/rings_c && rt lib) && mkdir -p target
+ *     gcc -std=c11 -Wall -Wextra -O2 c/lines.c crates/rings_c/out/librings_c.a -o target/lines
  *     target/lines read <TEXT >REGISTER
  *     target/lines write <REGISTER >TEXT
  *

@@ -1,8 +1,8 @@
 /*
  * Tells which stored answers are old. They come on standard input as rings_answer wrote them, 16 bytes each:
  *
- *     rt staticlib rings_c
- *     gcc -std=c11 -Wall -Wextra -O2 c/old.c target/staticlib/librings_c.a -o target/old
+ *     (cd crates/rings_c && rt lib) && mkdir -p target
+ *     gcc -std=c11 -Wall -Wextra -O2 c/old.c crates/rings_c/out/librings_c.a -o target/old
  *     target/old <ANSWERS
  *
  * Prints a line for each, its card number and `old` or `current`. An error of reading or writing, or a last answer that is

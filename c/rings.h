@@ -1,7 +1,7 @@
 /*
  * The ring register: worst-case distances of a register of cards, by the tables and Equation C-1 of the EPA's guidance,
  * registers from comma lines and back, the likely distance of a card at a rate that is supplied, and whether a stored answer
- * is old. Six calls, proved in crates/rings_c; link target/staticlib/librings_c.a (written by `rt staticlib rings_c`).
+ * is old. Six calls, proved in crates/rings_c; link crates/rings_c/out/librings_c.a (written by `rt lib` there).
  */
 #ifndef RINGS_H
 #define RINGS_H

@@ -13,7 +13,7 @@ fn main() {
     println!("cargo::rerun-if-changed={}", archive.display());
     if !archive.is_file() {
         println!(
-            "cargo::error={} is missing: build it with `rt staticlib rings_c`, \
+            "cargo::error={} is missing: build it by `rt lib` in crates/rings_c, \
              or leave the proved library out with `--no-default-features`",
             archive.display()
         );
@@ -23,11 +23,11 @@ fn main() {
     println!("cargo::rustc-link-lib=static=rings_c");
 }
 
-/// `../target/staticlib`, unless `RINGS_C_DIR` names another folder (used to try the tests on a faulty library).
+/// `../crates/rings_c/out`, unless `RINGS_C_DIR` names another folder (used to try the tests on a faulty library).
 fn archive_folder() -> PathBuf {
     let package = PathBuf::from(env::var_os("CARGO_MANIFEST_DIR").expect("cargo sets it"));
     match env::var_os("RINGS_C_DIR") {
         Some(folder) => PathBuf::from(folder),
-        None => package.join("../target/staticlib"),
+        None => package.join("../crates/rings_c/out"),
     }
 }

@@ -1,11 +1,12 @@
 #!/usr/bin/env bash
-# Compiles the C programs against the proved archive. What the example prints is compared with the listings and the leaders,
+# Compiles the C programs against the proved archive, which `rt lib` has written. What the example prints is compared with the listings and the leaders,
 # the comma lines of the examples are read into their registers and written from them, likely distances are found, and old
 # answers are told.
 set -euo pipefail
 cd "$(dirname "$0")/.."
+mkdir -p target
 for program in example lines likely old; do
-    gcc -std=c11 -Wall -Wextra -Werror -O2 -Ic "c/$program.c" target/staticlib/librings_c.a -o "target/c-$program"
+    gcc -std=c11 -Wall -Wextra -Werror -O2 -Ic "c/$program.c" crates/rings_c/out/librings_c.a -o "target/c-$program"
 done
 
 # ends with the status that is expected, and nothing on standard output

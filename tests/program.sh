@@ -1,10 +1,11 @@
 #!/usr/bin/env bash
 # Runs the built listing program on the examples, on a slow pipe, on input that is too long, and where it cannot write; then
-# ./list, which finds everything proved; then the program for likely scenarios in the same ways.
+# ./list twice, which the second time finds everything proved; then the program for likely scenarios in the same ways.
 set -euo pipefail
 cd "$(dirname "$0")/.."
-rings=target/bin/rings
-likely=target/bin/likely
+mkdir -p target
+rings=crates/rings/out/rings
+likely=crates/likely/out/likely
 
 # a byte at a time through a pipe, which makes short reads
 slowly() {
@@ -37,7 +38,9 @@ test -s target/rings-error
 "$rings" <examples/document-01.register >/dev/full 2>target/rings-error || true
 test -s target/rings-error
 
-# ./list prints the listing and nothing beside it; a file that is not there ends it with a message and status 1
+# ./list prints the listing and nothing beside it: on standard error only, and only where crates have to be proved for it, which
+# crates those are, so that a second run is quiet; a file that is not there ends it with a message and status 1
+./list examples/document-01.register 2>target/list-progress | diff - examples/document-01.listing
 ./list examples/document-01.register 2>target/list-error | diff - examples/document-01.listing
 test ! -s target/list-error
 status=0
