@@ -1,11 +1,11 @@
-// Standard input, read whole: what a program of this repository reads before it answers. What comes in is the operating system's, so
+// A reader's bytes, read whole: what a program of this repository reads before it answers. What comes in is the operating system's, so
 // the contract says only where it lies.
 #![tactic(auto)]
 
 ghost use Rattle.std.specs.Prelude.{length};
 ghost use Rattle.input.specs.Input.{Within};
 
-use libc::STDIN_FILENO;
+use std::io::Read;
 
 // How many bytes the input has, up to the buffer's length, or that it cannot be read.
 #[derive(Clone, Copy)]
@@ -15,16 +15,14 @@ pub enum Input {
 }
 
 // Reads to the end of the input, or of the buffer: pipes and terminals give it in parts.
-pub fn read_all(buffer: &mut [u8]) -> Input
+pub fn read_all(reader: &mut impl Read, buffer: &mut [u8]) -> Input
     ensures { Within (length buffer.new) result }
 {
     let mut done = 0usize;
     while done < buffer.len() {
-        let got = libc::read(STDIN_FILENO, &mut buffer[done..]);
-        if got < 0 {
+        let Ok(more) = reader.read(&mut buffer[done..]) else {
             return Input::Failed;
-        }
-        let more = io::count(got, &buffer[done..]);
+        };
         if more == 0 {
             return Input::Bytes(done);
         }

@@ -4,19 +4,24 @@
 ghost use Rattle.std.specs.Prelude.{◌≡◌, length};
 
 use input::Input;
-use libc::{STDERR_FILENO, STDOUT_FILENO};
+use std::io::Read;
+
+// An error is said on standard error; where that cannot be written either, nobody hears of it.
+fn say(rt: &impl Eprint, message: &str) {
+    let _ = rt.eprint(message);
+}
 
 // Reads the question, lists it into the text, and prints that. A listing that cannot be had whole is said to be none.
-fn run(asked: &mut [u8]) {
+fn run(rt: &(impl Print + Eprint), reader: &mut impl Read, asked: &mut [u8]) {
     let mut text = [0; 128];
-    let read = input::read_all(asked);
+    let read = input::read_all(reader, asked);
     let Input::Bytes(n) = read else {
-        io::write_all(STDERR_FILENO, b"likely: cannot read the question\n");
+        say(rt, "likely: cannot read the question\n");
         return;
     };
     let end = likely_listing::list(&asked[..n], &mut text);
-    if !io::write_all(STDOUT_FILENO, &text[..end]) {
-        io::write_all(STDERR_FILENO, b"likely: cannot write the whole listing\n");
+    if rt.write_all(&text[..end]).is_err() {
+        say(rt, "likely: cannot write the whole listing\n");
     }
 }
 
@@ -27,7 +32,7 @@ fn question_buffer() -> [u8; 1_001]
     [0; 1_001]
 }
 
-fn main() {
+fn main(rt: HostRuntime) {
     let mut asked = question_buffer();
-    run(&mut asked);
+    run(&rt, &mut rt.stdin(), &mut asked);
 }

@@ -4,23 +4,28 @@
 ghost use Rattle.std.specs.Prelude.{◌≡◌, length};
 
 use input::Input;
-use libc::{STDERR_FILENO, STDOUT_FILENO};
 use listing::Listed;
+use std::io::Read;
+
+// An error is said on standard error; where that cannot be written either, nobody hears of it.
+fn say(rt: &impl Eprint, message: &str) {
+    let _ = rt.eprint(message);
+}
 
 // Reads the register, lists it into the text, and prints that. A listing that cannot be had whole is said to be none.
-fn run(input: &mut [u8], text: &mut [u8]) {
-    let read = input::read_all(input);
+fn run(rt: &(impl Print + Eprint), reader: &mut impl Read, input: &mut [u8], text: &mut [u8]) {
+    let read = input::read_all(reader, input);
     let Input::Bytes(n) = read else {
-        io::write_all(STDERR_FILENO, b"rings: cannot read the register\n");
+        say(rt, "rings: cannot read the register\n");
         return;
     };
     let listed = listing::list(&input[..n], text);
     let Listed::Text(end) = listed else {
-        io::write_all(STDERR_FILENO, b"rings: no room for the listing\n");
+        say(rt, "rings: no room for the listing\n");
         return;
     };
-    if !io::write_all(STDOUT_FILENO, &text[..end]) {
-        io::write_all(STDERR_FILENO, b"rings: cannot write the whole listing\n");
+    if rt.write_all(&text[..end]).is_err() {
+        say(rt, "rings: cannot write the whole listing\n");
     }
 }
 
@@ -38,8 +43,8 @@ fn text_buffer() -> [u8; 256_256]
     [0; 256_256]
 }
 
-fn main() {
+fn main(rt: HostRuntime) {
     let mut input = input_buffer();
     let mut text = text_buffer();
-    run(&mut input, &mut text);
+    run(&rt, &mut rt.stdin(), &mut input, &mut text);
 }

@@ -5,52 +5,57 @@
 
 ghost use Rattle.std.specs.Prelude.{◌≡◌, ◌≤◌, ◌<◌, length};
 
-use libc::{STDIN_FILENO, STDOUT_FILENO};
 use listing::Listed;
 use register::Outcome;
+use std::io::Read;
+
+// Prints bytes. What cannot be written is missed where the output is compared.
+fn put(out: &impl Print, bytes: &[u8]) {
+    let _ = out.write_all(bytes);
+}
 
 // The listing of a register.
-fn list(register: &[u8], text: &mut [u8]) {
+fn list(out: &impl Print, register: &[u8], text: &mut [u8]) {
     let listed = listing::list(register, text);
     let Listed::Text(end) = listed else {
-        io::write_all(STDOUT_FILENO, b"no room\n");
+        put(out, b"no room\n");
         return;
     };
-    io::write_all(STDOUT_FILENO, &text[..end]);
+    put(out, &text[..end]);
 }
 
 // The outcome of a call that is lent the first bytes of the text as its answer buffer.
-fn fill(register: &[u8], room: usize, text: &mut [u8]) {
+fn fill(out: &impl Print, register: &[u8], room: usize, text: &mut [u8]) {
     if text.len() < room {
-        io::write_all(STDOUT_FILENO, b"no such buffer\n");
+        put(out, b"no such buffer\n");
         return;
     }
     let outcome = register::fill(register, &mut text[..room]);
     let Outcome::Refused(refusal, place) = outcome else {
-        io::write_all(STDOUT_FILENO, b"accepted\n");
+        put(out, b"accepted\n");
         return;
     };
     let mut line = [0u8; 64];
     let end = closing::put_refused(&mut line, 0, refusals::number(refusal), place);
-    io::write_all(STDOUT_FILENO, &line[..end]);
+    put(out, &line[..end]);
 }
 
-fn say(label: &[u8]) {
-    io::write_all(STDOUT_FILENO, b"# ");
-    io::write_all(STDOUT_FILENO, label);
-    io::write_all(STDOUT_FILENO, b"\n");
+fn say(out: &impl Print, label: &[u8]) {
+    put(out, b"# ");
+    put(out, label);
+    put(out, b"\n");
 }
 
-fn run(register: &[u8], room: usize, text: &mut [u8]) {
+fn run(out: &impl Print, register: &[u8], room: usize, text: &mut [u8]) {
     if room == 65_535 {
-        list(register, text);
+        list(out, register, text);
     } else {
-        fill(register, room, text);
+        fill(out, register, room, text);
     }
 }
 
 // Runs the case at a position and answers where the next one starts. What is too short for a case ends the run.
-fn run_case(cases: &[u8], at: usize, text: &mut [u8]) -> usize
+fn run_case(out: &impl Print, cases: &[u8], at: usize, text: &mut [u8]) -> usize
     requires { (at < length cases.now) × (length cases.now ≤ 262_144) }
     ensures { (at < result) × (result ≤ length cases.now) }
 {
@@ -62,26 +67,43 @@ fn run_case(cases: &[u8], at: usize, text: &mut [u8]) -> usize
         return cases.len();
     }
     let room = buffer::two(cases, middle) as usize;
-    say(&cases[label..middle]);
-    run(&cases[start..end], room, text);
+    say(out, &cases[label..middle]);
+    run(out, &cases[start..end], room, text);
     end
 }
 
-fn run_all(cases: &[u8], text: &mut [u8])
+fn run_all(out: &impl Print, cases: &[u8], text: &mut [u8])
     requires { length cases.now ≤ 262_144 }
 {
     let mut at = 0usize;
     while at < cases.len() {
-        at = run_case(cases, at, text);
+        at = run_case(out, cases, at, text);
     }
 }
 
+// Reads until the buffer is full, the input ends or a read fails, and answers how many bytes came.
+fn read_full(reader: &mut impl Read, buffer: &mut [u8]) -> usize
+    ensures { result ≤ length buffer.new }
+{
+    let mut done = 0usize;
+    while done < buffer.len() {
+        let Ok(more) = reader.read(&mut buffer[done..]) else {
+            return done;
+        };
+        if more == 0 {
+            return done;
+        }
+        done += more;
+    }
+    done
+}
+
 // The cases stop where the input or the buffer ends.
-fn read_and_run(cases: &mut [u8], text: &mut [u8])
+fn read_and_run(out: &impl Print, reader: &mut impl Read, cases: &mut [u8], text: &mut [u8])
     requires { length cases.old ≤ 262_144 }
 {
-    let n = io::read_full(STDIN_FILENO, cases);
-    run_all(&cases[..n], text);
+    let n = read_full(reader, cases);
+    run_all(out, &cases[..n], text);
 }
 
 fn cases_buffer() -> [u8; 262_144]
@@ -97,8 +119,8 @@ fn text_buffer() -> [u8; 256_256]
     [0; 256_256]
 }
 
-fn main() {
+fn main(rt: HostRuntime) {
     let mut cases = cases_buffer();
     let mut text = text_buffer();
-    read_and_run(&mut cases, &mut text);
+    read_and_run(&rt, &mut rt.stdin(), &mut cases, &mut text);
 }
