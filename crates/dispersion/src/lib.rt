@@ -36,14 +36,14 @@ fn by_row(
     last: u64,
     rural: &[u16],
     urban: &[u16],
-    ground: Ground,
+    surroundings: Ground,
     rate: u64,
 ) -> Reading
     requires { (length rural.now ≡ length cuts.now + 1) × (length urban.now ≡ length cuts.now + 1) }
-    ensures { result ≡ answered (ltb last rate) (get_or (column_of ground rural.now urban.now) (first_at_least rate cuts.now) 0) }
+    ensures { result ≡ answered (ltb last rate) (get_or (column_of surroundings rural.now urban.now) (first_at_least rate cuts.now) 0) }
 {
     let row = search::first_at_least(cuts, rate);
-    match ground {
+    match surroundings {
         Ground::Rural => rules::answer(last, rate, rural[row]),
         Ground::Urban => rules::answer(last, rate, urban[row]),
     }
@@ -52,7 +52,7 @@ fn by_row(
 // Tables 1 to 4, each for one ground, whichever the card's is.
 fn neutral(table: u8, rate: u64, endpoint: u32) -> Reading
     requires { table ≤ 4 }
-    ensures { (ground : Ground) → result ≡ reading_of table ground rate endpoint }
+    ensures { (surroundings : Ground) → result ≡ reading_of table surroundings rate endpoint }
 {
     match table {
         1 => neutral::table_1(rate, endpoint),

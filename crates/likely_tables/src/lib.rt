@@ -33,7 +33,7 @@ fn range_read(reading: Reading) -> LikelyReading
 // Tables 14 to 17, each for one ground, whichever the card's is; no table below has a likely reading.
 fn neutral(table: u8, rate: u64, endpoint: u32) -> LikelyReading
     requires { table ≤ 17 }
-    ensures { (ground : Ground) → result ≡ likely_reading table ground rate endpoint }
+    ensures { (surroundings : Ground) → result ≡ likely_reading table surroundings rate endpoint }
 {
     match table {
         14 => range_read(likely_neutral::table_14(rate, endpoint)),
@@ -45,11 +45,11 @@ fn neutral(table: u8, rate: u64, endpoint: u32) -> LikelyReading
 }
 
 // A table of rows, by their rates and the entries in use of its two columns.
-fn by_row(rates: &[u64], rural: &[u16], urban: &[u16], ground: Ground, rate: u64) -> LikelyReading
+fn by_row(rates: &[u64], rural: &[u16], urban: &[u16], surroundings: Ground, rate: u64) -> LikelyReading
     requires { (0 < length rates.now) × ((length rural.now ≡ length rates.now) × (length urban.now ≡ length rates.now)) }
-    ensures { result ≡ likely_at rates.now (λ i. get_or (column_of ground rural.now urban.now) i 0) rate }
+    ensures { result ≡ likely_at rates.now (λ i. get_or (column_of surroundings rural.now urban.now) i 0) rate }
 {
-    match ground {
+    match surroundings {
         Ground::Rural => interpolation::read(rates, rural, rate),
         Ground::Urban => interpolation::read(rates, urban, rate),
     }

@@ -12,6 +12,9 @@ returns-in_default-second c = search (no_minutes, rules)
 pub slice_bounds-line_of-count : goal.slice_bounds-line_of-count
 slice_bounds-line_of-count c = search (taken_within, rules)
 
+pub slice_bounds-line_of-start : goal.slice_bounds-line_of-start
+slice_bounds-line_of-start c = search (taken_within, rules)
+
 pub returns-in_default-third : goal.returns-in_default-third
 returns-in_default-third c = search (no_card, rules)
 
