@@ -1,14 +1,20 @@
 -- `rules::answer` meets its contract: its ways are those of the definition. Assumes nothing.
-use mathlib.Core.Path.{sym}
+use Rattle.std.proofs.Common.{◌≡◌, ⊎_elim, sym}
+use borrow.Author.Rules.{rules}
+use Prim.Native.Nat.{ℕ, ◌<◌}
+use Rattle.units.specs.declared.Reading.{Reading}
+use Rattle.units.specs.declared.Reading.TheVariants.{Beyond}
+use lib.Dec.{ltb}
+use Rattle.rules.specs.Rules.{answered, mile_limit}
 use Rattle.rules.proofs.Laws.{answered_within, answered_limit, answered_beyond}
 use Rattle.rules.proofs.answer.Goals as goal
-use Rattle.rules.proofs.answer.Goals.{then-rate-last-via-then-rate-last, then-rate-last-via-else-rate-last+then-entry-eq-MILE_LIMIT}
 
 pub returns-then-rate-last : goal.returns-then-rate-last
-returns-then-rate-last c = elim c.then-rate-last.branch [
-      then-rate-last-via-then-rate-last w ↦ sym (answered_within _ _ _ w.if-rate-last.true)
-      | then-rate-last-via-else-rate-last+then-entry-eq-MILE_LIMIT w ↦ sym (answered_limit _ _ _ w.if-rate-last.false w.if-entry-eq-MILE_LIMIT.true)
-    ]
+returns-then-rate-last c =
+    ⊎_elim (λ w. sym (answered_within _ _ _ w)) (λ w. sym (answered_limit _ _ _ w.0 w.1)) c.then-rate-last.either
+
+beyond : (last rate entry : ℕ) → last < rate → (entry ≡ 2500 → ⊥) → Beyond ≡ answered (ltb last rate) entry
+beyond last rate entry h n = sym (answered_beyond last rate entry h n)
 
 pub returns : goal.returns
-returns c = sym (answered_beyond _ _ _ c.if-rate-last.false c.if-entry-eq-MILE_LIMIT.false)
+returns c = search (beyond, rules)

@@ -6,7 +6,6 @@ use borrow.Author.Count.{below_none, below_more}
 use native.Mathlib.Omega.{arith}
 use borrow.Author.Rules.{rules}
 use Rattle.rules.proofs.settle.Goals as goal
-use Rattle.rules.proofs.settle.Goals.{then-row-rows-via-then-row-rows, then-row-rows-via-else-row-rows+then-rate-rows, then-column-columns-via-then-column-columns, then-column-columns-via-else-column-columns+then-endpoint-columns}
 
 pub rows-init : goal.rows-init
 rows-init c = (search rules, below_none _, refl)
@@ -21,7 +20,7 @@ pub loop-column-smaller : goal.loop-column-smaller
 loop-column-smaller c = omega arith
 
 pub loop-column-preserved : goal.loop-column-preserved
-loop-column-preserved c = (omega arith, below_more _ _ c.loop-column.invariant.1 c.if-endpoint-columns.false)
+loop-column-preserved c = (omega arith, below_more _ _ c.loop-column.invariant.1 (omega arith))
 
 pub overflow_add-row : goal.overflow_add-row
 overflow_add-row c = omega arith
@@ -30,20 +29,14 @@ pub rows-smaller : goal.rows-smaller
 rows-smaller c = omega arith
 
 pub rows-preserved : goal.rows-preserved
-rows-preserved c = (omega arith, below_more _ _ c.rows.invariant.1 c.if-rate-rows.false, c.rows.invariant.2)
+rows-preserved c = (omega arith, below_more _ _ c.rows.invariant.1 (omega arith), c.rows.invariant.2)
 
 pub returns : goal.returns
 returns c = (
   sym
       (first_unique _ _ _ c.rows.invariant.0 c.rows.invariant.1
-      (λ h. elim c.then-row-rows.branch [
-        then-row-rows-via-then-row-rows w ↦ absurd (omega arith)
-        | then-row-rows-via-else-row-rows+then-rate-rows w ↦ w.if-rate-rows.true
-      ])),
+      (λ h. grind arith)),
   sym
       (first_unique _ _ _ c.loop-column.invariant.0 c.loop-column.invariant.1
-      (λ h. elim c.then-column-columns.branch [
-        then-column-columns-via-then-column-columns w ↦ absurd (omega arith)
-        | then-column-columns-via-else-column-columns+then-endpoint-columns w ↦ w.if-endpoint-columns.true
-      ])),
+      (λ h. grind arith)),
 )

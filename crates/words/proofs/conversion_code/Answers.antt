@@ -1,0 +1,11 @@
+-- `words::conversion_code` meets its contract: 0, or the number of the refusal.
+-- Assumes nothing.
+use Rattle.words.proofs.Ends.{bytes_code, refusal_code_lem}
+use borrow.Author.Rules.{rules}
+use Rattle.words.proofs.conversion_code.Goals as goal
+
+pub returns-in-Bytes : goal.returns-in-Bytes
+returns-in-Bytes c = search (bytes_code, rules)
+
+pub returns-in-Refused : goal.returns-in-Refused
+returns-in-Refused c = search (refusal_code_lem, rules)

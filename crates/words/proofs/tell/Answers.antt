@@ -1,0 +1,11 @@
+-- `words::tell` meets its contract: the outcome decides the result and the two words.
+-- Assumes nothing.
+use Rattle.words.proofs.Ends.{accepted_code, accepted_word, refused_code, refused_word}
+use borrow.Author.Rules.{rules}
+use Rattle.words.proofs.tell.Goals as goal
+
+pub returns-in-Accepted : goal.returns-in-Accepted
+returns-in-Accepted c = search (accepted_code, accepted_word, rules)
+
+pub returns-in-Refused : goal.returns-in-Refused
+returns-in-Refused c = search (refused_code, refused_word, rules)
