@@ -45,7 +45,13 @@ fn neutral(table: u8, rate: u64, endpoint: u32) -> LikelyReading
 }
 
 // A table of rows, by their rates and the entries in use of its two columns.
-fn by_row(rates: &[u64], rural: &[u16], urban: &[u16], surroundings: Ground, rate: u64) -> LikelyReading
+fn by_row(
+    rates: &[u64],
+    rural: &[u16],
+    urban: &[u16],
+    surroundings: Ground,
+    rate: u64,
+) -> LikelyReading
     requires { (0 < length rates.now) × ((length rural.now ≡ length rates.now) × (length urban.now ≡ length rates.now)) }
     ensures { result ≡ likely_at rates.now (λ i. get_or (column_of surroundings rural.now urban.now) i 0) rate }
 {

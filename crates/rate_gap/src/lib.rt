@@ -1,3 +1,2 @@
 // How far a rate may be off: a crate of theorems, in specs/. It has no code of its own.
 #![tactic(auto)]
-

@@ -3,7 +3,6 @@
 // everybody else passes them on whole.
 #![tactic(auto)]
 
-
 // Whole pounds of a substance.
 #[derive(Clone, Copy)]
 pub struct Pounds(pub u32);

@@ -35,12 +35,12 @@ pub loop-span-preserved : goal.loop-span-preserved
 loop-span-preserved c =
     let inv = c.loop-span.invariant in
     elim c.if-last-need.branch [
-      then-last-need w ↦ too_small _ _ _ _ _ inv w.low-is (omega (arith, w.low-is)) w.if-last-need.true
+      | then-last-need w ↦ too_small _ _ _ _ _ inv w.low-is (omega (arith, w.low-is)) w.if-last-need.true
       | else-last-need w ↦ large_enough _ _ _ _ _ inv w.low-is (omega arith) w.if-last-need.false
     ]
 
 pub returns : goal.returns
 returns c = record {
-    value = met _ _ _ c.loop-span.span (omega arith) c.loop-span.invariant;
-    upper_bound = omega arith;
+  value = met _ _ _ c.loop-span.span (omega arith) c.loop-span.invariant;
+  upper_bound = omega arith;
 }

@@ -6,6 +6,6 @@ use Rattle.closing.proofs.put_refused.Goals as goal
 
 pub returns : goal.returns
 returns c = record {
-    wrote = search (refused_line_lem, rules);
-    upper_bound = search rules;
+  wrote = search (refused_line_lem, rules);
+  upper_bound = search rules;
 }

@@ -5,6 +5,6 @@ use Rattle.combustion.proofs.heat_of.Goals as goal
 
 pub returns : goal.returns
 returns c = record {
-    value = c.heat_of.ensures;
-    upper_bound = omega (arith, heat_within c.args.cas);
+  value = c.heat_of.ensures;
+  upper_bound = omega (arith, heat_within c.args.cas);
 }

@@ -41,9 +41,9 @@ overflow_add-result c = omega arith
 pub returns : goal.returns
 returns c = let args = c.args in
     let loop = c.loop-left in record {
-    wrote = record {
+      wrote = record {
         place = omega (arith, length_padded args.count args.n);
         bytes = sym (loop.invariant.0 ∙ digit_end loop.out args.at loop.left loop.rest c.loop-left-test.false);
       };
-    value = refl;
-}
+      value = refl;
+    }

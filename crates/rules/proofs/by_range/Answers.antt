@@ -28,6 +28,6 @@ returns c = let a = c.args in
     let place = scaled_place (suc (1000 * a.rate)) a.endpoint a.bounds.now c.loop-i.i in
     rw (place c.loop-i.invariant.0 c.loop-i.invariant.1
     (λ h. elim c.loop-i-test.branch [
-      else-loop-i-test w ↦ absurd (omega arith)
+      | else-loop-i-test w ↦ absurd (omega arith)
       | then-loop-i-test+then-rate-reaching w ↦ omega (arith, w.reaching.ensures, w.if-rate-reaching.true)
     ]))

@@ -6,10 +6,10 @@ pub pool_rate-rate-requires : goal.pool_rate-rate-requires
 pool_rate-rate-requires c = let a = c.args in
     let p = c.requires in
     record {
-    lf_bound = p.lf_bound;
-    tcf_bound = p.tcf_bound;
-    area_bound = rw c.pool_area-area.ensures (area_limit a.source.df a.card.containment p.quantity_bound p.df_bound);
-}
+      lf_bound = p.lf_bound;
+      tcf_bound = p.tcf_bound;
+      area_bound = rw c.pool_area-area.ensures (area_limit a.source.df a.card.containment p.quantity_bound p.df_bound);
+    }
 
 pub returns : goal.returns
 returns c = let a = c.args in
