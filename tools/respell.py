@@ -14,6 +14,9 @@ import sys
 TOKEN = re.compile(r"[A-Za-z_][\w'′]*(?:-[\w'′]+)*-?")
 IMPORTED = re.compile(r"use (?:Prim|native|mathlib|borrow|lib|denote|specs|Rattle\.(?:std|core|io|libc))\b[\w.]*\.\{([^}]*)\}")
 DECLARED = re.compile(r"\s*(?:\| )?(?:abbrev |unfoldable )?(?:pub )?(?:data |record |ruleset |module )?([a-z][\w'′-]*) :(?!:)")
+# constructors of one type that share a line, and names that a proof gives a step
+TOGETHER = re.compile(r"\s*((?:[a-z][\w'′-]* )+):(?!:)")
+STEP = re.compile(r"\blet ([a-z][\w'′-]*) (?=[:=])")
 # where plain turning would fall together with another name, or would keep a word of the old library
 OTHERWISE = {
     "held_in": "held_in_lem",
@@ -23,8 +26,21 @@ OTHERWISE = {
     "one_line": "one_line_lem",
     "sentBack": "sent_back_as",
 }
+# variables whose names have dashes or capitals
+BOUND = {
+    "behind-cas",
+    "behind-containment",
+    "behind-ground",
+    "behind-kind",
+    "behind-number",
+    "behind-pounds",
+    "behind-state",
+    "digits-but-one",
+    "not-refused",
+    "register-told",
+}
 # they fall together with names of crates that do not see them
-APART = {"at_head", "last_line", "too_long"}
+APART = {"at_head", "last_line", "sulfur_dioxide", "too_long"}
 
 
 def files(root, ends):
@@ -36,8 +52,8 @@ def files(root, ends):
 
 
 def of_function(path):
-    """Whether a file is one function's proof: proofs/F/*.antt."""
-    return os.path.basename(os.path.dirname(os.path.dirname(path))) == "proofs"
+    """Whether a file is one function's proof: proofs/F/*.antt or proofs/M/F/*.antt."""
+    return "proofs" in path.split(os.sep)[:-2]
 
 
 def turned(name):
@@ -57,8 +73,11 @@ def declared(root):
             if re.match(r"\s*(--|use |ghost )", line):
                 continue
             it = DECLARED.match(line)
-            if it:
-                found[it.group(1)].add(os.path.relpath(path, root))
+            names = [it.group(1)] if it else []
+            it = TOGETHER.match(line)
+            names += it.group(1).split() if it else []
+            for name in names + STEP.findall(line):
+                found[name].add(os.path.relpath(path, root))
     return found
 
 
@@ -76,7 +95,7 @@ def main(argv):
     root = argv[0] if argv else "."
     found = declared(root)
     library = imported(root)
-    turn = {name: turned(name) for name in found if turned(name) != name and name not in library}
+    turn = {name: turned(name) for name in [*found, *sorted(BOUND)] if turned(name) != name and name not in library}
     definitions = {new for name, new in turn.items() if re.search("[a-z0-9][A-Z]", name)}
     for name, new in turn.items():
         if "-" in name and new in definitions:

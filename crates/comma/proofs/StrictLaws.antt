@@ -165,7 +165,7 @@ tenths_written state heat h =
 -- ---- a strict line is short
 
 -- a CAS number with so many digits in its first group has five bytes more: three digits and two hyphens
-pub cas_short : (digits-but-one cas : ℕ) → cas / 1_000 < 10 ^ suc digits-but-one → length (cas_text cas) ≤ digits-but-one + 6
+pub cas_short : (digits_but_one cas : ℕ) → cas / 1_000 < 10 ^ suc digits_but_one → length (cas_text cas) ≤ digits_but_one + 6
 cas_short k cas h = rw (cas_grouped cas, length-append) (omega (arith, digits_short k (cas / 1_000) h))
 
 -- a temperature is at most a minus and five digits

@@ -56,8 +56,8 @@ unfoldable pub lasts_in : Codes → Amounts → List (List ℕ) → Line
 lasts_in codes amounts fields =
     next of_two_bytes fields (λ wall behind_wall.
     next (tenths_form codes.state) behind_wall (λ heat behind_heat.
-    next of_four_bytes behind_heat (λ number behind-number.
-    remark behind-number
+    next of_four_bytes behind_heat (λ number behind_number.
+    remark behind_number
     (record {
       kind = codes.kind;
       state = codes.state;
@@ -74,19 +74,19 @@ lasts_in codes amounts fields =
 -- "CAS number with hyphens .., pounds, area"
 unfoldable pub amounts_in : Codes → List (List ℕ) → Line
 amounts_in codes fields =
-    next Cas fields (λ cas behind-cas.
-    next of_four_bytes behind-cas (λ pounds behind-pounds.
-    next of_four_bytes behind-pounds (λ area behind_area.
+    next Cas fields (λ cas behind_cas.
+    next of_four_bytes behind_cas (λ pounds behind_pounds.
+    next of_four_bytes behind_pounds (λ area behind_area.
     lasts_in codes (record { cas = cas; pounds = pounds; area = area }) behind_area)))
 
 -- "kind, state, ground, containment"
 unfoldable pub codes_in : List (List ℕ) → Line
 codes_in fields =
-    next of_one_byte fields (λ kind behind-kind.
-    next of_one_byte behind-kind (λ state behind-state.
-    next of_one_byte behind-state (λ ground behind-ground.
-    next of_one_byte behind-ground (λ containment behind-containment.
-    amounts_in (record { kind = kind; state = state; ground = ground; containment = containment }) behind-containment))))
+    next of_one_byte fields (λ kind behind_kind.
+    next of_one_byte behind_kind (λ state behind_state.
+    next of_one_byte behind_state (λ ground behind_ground.
+    next of_one_byte behind_ground (λ containment behind_containment.
+    amounts_in (record { kind = kind; state = state; ground = ground; containment = containment }) behind_containment))))
 
 -- "A line is at most 200 bytes, then a line feed"
 abbrev pub longest_line : ℕ

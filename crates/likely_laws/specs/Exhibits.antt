@@ -59,7 +59,7 @@ generic_in (generic p g m table ∷ rest) plume ground minutes =
 
 -- its substances by name
 pub data Substance : Type 0 where
-  ammonia-under-pressure ammonia-not-liquefied ammonia-by-refrigeration ammonia-in-water chlorine sulfur-dioxide : Substance
+  ammonia_under_pressure ammonia_not_liquefied ammonia_by_refrigeration ammonia_in_water chlorine sulfur_dioxide : Substance
 
 -- a line: the substances, gas or vapor density, release duration in minutes from and to, topography, reference table number
 pub data SpecificLine : Type 0 where
@@ -68,23 +68,23 @@ pub data SpecificLine : Type 0 where
 unfoldable pub exhibit5 : List SpecificLine
 exhibit5 =
     -- "Anhydrous ammonia liquefied under pressure"
-    specific (ammonia-under-pressure ∷ []) Dense 10 60 (Rural ∷ Urban ∷ []) 22
+    specific (ammonia_under_pressure ∷ []) Dense 10 60 (Rural ∷ Urban ∷ []) 22
     -- "Non-liquefied ammonia, ammonia liquefied by refrigeration, or aqueous ammonia"
-    ∷ specific (ammonia-not-liquefied ∷ ammonia-by-refrigeration ∷ ammonia-in-water ∷ []) Neutral 10 60 (Rural ∷ Urban ∷ []) 23
+    ∷ specific (ammonia_not_liquefied ∷ ammonia_by_refrigeration ∷ ammonia_in_water ∷ []) Neutral 10 60 (Rural ∷ Urban ∷ []) 23
     -- "Chlorine"
     ∷ specific (chlorine ∷ []) Dense 10 60 (Rural ∷ Urban ∷ []) 24
     -- "Sulfur dioxide (anhydrous)"
-    ∷ specific (sulfur-dioxide ∷ []) Dense 10 60 (Rural ∷ Urban ∷ []) 25
+    ∷ specific (sulfur_dioxide ∷ []) Dense 10 60 (Rural ∷ Urban ∷ []) 25
     ∷ []
 
 -- a number for each, by which two are compared
 abbrev pub code_of : Substance → ℕ
-code_of ammonia-under-pressure = 0
-code_of ammonia-not-liquefied = 1
-code_of ammonia-by-refrigeration = 2
-code_of ammonia-in-water = 3
+code_of ammonia_under_pressure = 0
+code_of ammonia_not_liquefied = 1
+code_of ammonia_by_refrigeration = 2
+code_of ammonia_in_water = 3
 code_of chlorine = 4
-code_of sulfur-dioxide = 5
+code_of sulfur_dioxide = 5
 
 -- The table that a substance has there in a topography; 0 where no line has it. "You may use these tables for releases of any duration."
 unfoldable pub specific_in : List SpecificLine → Substance → Ground → ℕ
@@ -97,11 +97,11 @@ specific_in (specific names p from upto grounds table ∷ rest) substance ground
 
 -- ammonia in a card's state; in state 4 it is refused with every gas, by 10, before its table matters
 abbrev pub ammonia_in : State → Substance
-ammonia_in Gas = ammonia-not-liquefied
-ammonia_in Pressurized = ammonia-under-pressure
-ammonia_in Refrigerated = ammonia-by-refrigeration
-ammonia_in Liquid = ammonia-not-liquefied
-ammonia_in Solution = ammonia-in-water
+ammonia_in Gas = ammonia_not_liquefied
+ammonia_in Pressurized = ammonia_under_pressure
+ammonia_in Refrigerated = ammonia_by_refrigeration
+ammonia_in Liquid = ammonia_not_liquefied
+ammonia_in Solution = ammonia_in_water
 
 abbrev pub is_solution : State → Bool
 is_solution Gas = false
@@ -130,94 +130,11 @@ exhibits_table cas state plume ground minutes =
             | true ↦ specific_in exhibit5 chlorine ground
             | false ↦
                 elim (eqb cas 7446095) [
-                  | true ↦ specific_in exhibit5 sulfur-dioxide ground
+                  | true ↦ specific_in exhibit5 sulfur_dioxide ground
                   | false ↦ generic_in exhibit4 (plume_in state plume) ground (duration_in state minutes)
                 ]
           ]
     ]
-
--- ---- every card
-
-generic_printed : (p : Plume) (g : Ground) (ten : Bool) → 13 + generic_table p g ten ≡ generic_in exhibit4 p g (printed_minutes ten)
-unfolding generic_in exhibit4
-generic_printed Neutral Rural true = refl
-generic_printed Neutral Rural false = refl
-generic_printed Neutral Urban true = refl
-generic_printed Neutral Urban false = refl
-generic_printed Dense Rural true = refl
-generic_printed Dense Rural false = refl
-generic_printed Dense Urban true = refl
-generic_printed Dense Urban false = refl
-
-ammonia_printed : (s : State) (g : Ground) → 13 + ammonia_table s ≡ specific_in exhibit5 (ammonia_in s) g
-unfolding specific_in exhibit5 among
-ammonia_printed Gas Rural = refl
-ammonia_printed Gas Urban = refl
-ammonia_printed Pressurized Rural = refl
-ammonia_printed Pressurized Urban = refl
-ammonia_printed Refrigerated Rural = refl
-ammonia_printed Refrigerated Urban = refl
-ammonia_printed Liquid Rural = refl
-ammonia_printed Liquid Urban = refl
-ammonia_printed Solution Rural = refl
-ammonia_printed Solution Urban = refl
-
-chlorine_printed : (g : Ground) → 24 ≡ specific_in exhibit5 chlorine g
-unfolding specific_in exhibit5 among
-chlorine_printed Rural = refl
-chlorine_printed Urban = refl
-
-sulfur_printed : (g : Ground) → 25 ≡ specific_in exhibit5 sulfur-dioxide g
-unfolding specific_in exhibit5 among
-sulfur_printed Rural = refl
-sulfur_printed Urban = refl
-
-ten_printed : (s : State) (t : Bool) → ten_minutes_in s t ≡ either (is_solution s) t
-ten_printed Gas t = refl
-ten_printed Pressurized t = refl
-ten_printed Refrigerated t = refl
-ten_printed Liquid t = refl
-ten_printed Solution t = refl
-
--- "Exhibits 4 and 5 choose among Tables 14 to 25": the definition's table is theirs, for every card and every duration
-pub by_exhibits : (card : ToxicCard) (minutes : ℕ)
-    → likely_table card minutes ≡ exhibits_table card.cas card.state (alternative_plume card.entry) card.ground minutes
-unfolding likely_table table_of exhibits_table
-by_exhibits card minutes = go (eqb card.cas 7664417) (eqb card.cas 7782505) (eqb card.cas 7446095)
-  where
-    s : State
-    s = card.state
-
-    g : Ground
-    g = card.ground
-
-    p : Plume
-    p = plume_in s (alternative_plume card.entry)
-
-    ten : Bool
-    ten = leb minutes 10
-
-    go : (a c f : Bool)
-        → 13 + (elim a as (λ _. ℕ) [
-          | true ↦ ammonia_table s
-          | false ↦
-              elim c as (λ _. ℕ)
-              [ true ↦ 11 | false ↦ elim f as (λ _. ℕ) [ true ↦ 12 | false ↦ generic_table p g (ten_minutes_in s ten) ] ]
-        ])
-        ≡ (elim a as (λ _. ℕ) [
-          | true ↦ specific_in exhibit5 (ammonia_in s) g
-          | false ↦
-              elim c as (λ _. ℕ) [
-                | true ↦ specific_in exhibit5 chlorine g
-                | false ↦
-                    elim f as (λ _. ℕ)
-                    [ true ↦ specific_in exhibit5 sulfur-dioxide g | false ↦ generic_in exhibit4 p g (printed_minutes (either (is_solution s) ten)) ]
-              ]
-        ])
-    go true c f = ammonia_printed s g
-    go false true f = chlorine_printed g
-    go false false true = sulfur_printed g
-    go false false false = generic_printed p g (ten_minutes_in s ten) ∙ ap (λ t. generic_in exhibit4 p g (printed_minutes t)) (ten_printed s ten)
 
 -- ---- a table of cases
 

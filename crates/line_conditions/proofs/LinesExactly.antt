@@ -29,7 +29,7 @@ use Rattle.line_conditions.specs.Lines.{malformed, bad_line, all_formed, no_room
 use Rattle.conditions.specs.Claim.{ExactlyBy}
 use Rattle.conditions.proofs.Tables.{Passes, Refuses, exactly_by}
 use Rattle.line_conditions.specs.LinesClaim.{ReadExactly, WrittenExactly}
-use Rattle.conditions.proofs.Exactly.{Told as RegisterTold, told as register-told}
+use Rattle.conditions.proofs.Exactly.{Told as RegisterTold, told as register_told}
 
 -- ---- what either call answers, in terms of its table
 
@@ -174,7 +174,7 @@ module _ (register : List ℕ) (room : ℕ) where
 
   written_told : Told (writing_at register room) (writing_of register room)
   unfolding writing_at writing_of
-  written_told = writing_told (outcome_of register enough) (register-told register enough)
+  written_told = writing_told (outcome_of register enough) (register_told register enough)
 
 pub written_exactly : WrittenExactly
 written_exactly register room = told_exactly (writing_at register room) (writing_of register room) (written_told register room)

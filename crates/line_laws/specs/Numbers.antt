@@ -20,7 +20,7 @@ use Rattle.interpolation.specs.declared.LikelyReading.{LikelyReading}
 use Rattle.interpolation.specs.declared.LikelyReading.TheVariants.{Is, Beyond}
 use Rattle.interpolation.specs.Interpolation.{float_of, row_of, line_between, entry_read, between_rows, above_last, by_first, likely_at, likely_by_row}
 use Rattle.line_laws.specs.Floats.{whole, le_of, at_least, at_most}
-use Rattle.line_laws.specs.Line.{line_between_lem}
+use Rattle.line_laws.proofs.Line.{line_between_lem}
 use Rattle.line_laws.specs.Rows.{held, step, below_place}
 
 -- a number between 0 and 2,500: `le` is false of a NaN

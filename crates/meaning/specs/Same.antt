@@ -104,6 +104,6 @@ flammable_fields_lem f last e =
 
 -- one meaning and one number, one set of fields
 pub same_fields : (f g : Fields) (last other : ℕ) {m : Meaning} → f.heat < 2 ^ 16 → g.heat < 2 ^ 16 → meaning_of f last ≡ m → meaning_of g other ≡ m → ((r : Refusal) → m ≡ meaning.Refused r → ⊥) → f.number ≡ g.number → f ≡ g
-same_fields f g last other {m = meaning.Toxic card} hf hg p q not-refused n = cc (toxic_fields_lem f last hf p, toxic_fields_lem g other hg q)
-same_fields f g last other {m = meaning.Flammable card} hf hg p q not-refused n = cc (flammable_fields_lem f last p, flammable_fields_lem g other q)
-same_fields f g last other {m = meaning.Refused r} hf hg p q not-refused n = absurd (not-refused r refl)
+same_fields f g last other {m = meaning.Toxic card} hf hg p q not_refused n = cc (toxic_fields_lem f last hf p, toxic_fields_lem g other hg q)
+same_fields f g last other {m = meaning.Flammable card} hf hg p q not_refused n = cc (flammable_fields_lem f last p, flammable_fields_lem g other q)
+same_fields f g last other {m = meaning.Refused r} hf hg p q not_refused n = absurd (not_refused r refl)

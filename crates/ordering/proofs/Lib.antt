@@ -1,2 +1,3 @@
 pub mod Found
 pub mod Ordering
+pub mod Order

@@ -5,7 +5,8 @@ use Rattle.std.proofs.Common.{◌∙◌, sym, ap, subst₂}
 use Rattle.card.specs.declared.Class.{Class}
 use Rattle.card.specs.declared.Class.TheVariants as class
 use Rattle.card.specs.declared.Answer.{Answer}
-use Rattle.ordering.specs.Order.{kind_of, cards_ordered, class_is}
+use Rattle.ordering.specs.Order.{kind_of}
+use Rattle.ordering.proofs.Order.{cards_ordered, class_is}
 use Rattle.farthest.specs.declared.Leaders.{Leaders}
 use Rattle.farthest.specs.Farthest.{At, Matched, NoFarther, farthest_of, leaders_of}
 use Rattle.farthest.proofs.Laws.{no_farther, leaders_toxic, leaders_flammable}

@@ -12,7 +12,8 @@ use Rattle.card.specs.declared.Class.TheVariants as class
 use Rattle.card.specs.declared.Answer.{Answer}
 use Rattle.card.specs.declared.Answered.TheVariants as answered
 use Rattle.card.specs.Answers.{answer_of}
-use Rattle.ordering.specs.Order.{kind_of, answer_first, class_is}
+use Rattle.ordering.specs.Order.{kind_of}
+use Rattle.ordering.proofs.Order.{answer_first, class_is}
 use Rattle.card.specs.Number.{answer_number}
 use Rattle.farthest.specs.declared.Farthest.TheVariants as farthest
 use Rattle.farthest.specs.declared.Leaders.{Leaders}

@@ -4,7 +4,7 @@
 use Rattle.std.specs.Prelude.{ℕ, ◌≡◌, refl, List, [], ◌∷◌, map}
 use Rattle.std.proofs.Common.{arith}
 use Rattle.promises.specs.Starred.{Row, card_of, row, toxic, given, at, none, urban, in_dike, in_building, stated, defined, computed}
-use Rattle.rate_gap.specs.Fractions.{◌over◌, ◌times◌, ◌plus◌, ◌at-most◌, ◌below◌, ◌equals◌}
+use Rattle.rate_gap.specs.Fractions.{◌over◌, ◌times◌, ◌plus◌, ◌at_most◌, ◌below◌, ◌equals◌}
 use Rattle.rate_gap.specs.Exact.{exact_diked, chain_of, exact_in}
 use Rattle.rate_gap.specs.Claim.{slack_in}
 

@@ -48,12 +48,12 @@ use Rattle.card.specs.Answers.{read_toxic, planned_answer, answer_for, answer_of
 use Rattle.encode.specs.Bytes.{answer_bytes}
 use Rattle.encode.specs.Laws.{length_answer}
 use Rattle.cards.specs.Register.{buffer_of}
-use Rattle.ordering.specs.Order.{answer_first}
+use Rattle.ordering.proofs.Order.{answer_first}
 use Rattle.ordering.specs.Claim.{card_at}
 use Rattle.promises.specs.Buffer.{buffer_answer}
 use Rattle.rate_gap.specs.Fractions.{◌over◌, Defined, ◌equals◌}
 use Rattle.rate_gap.specs.Exact.{Chain, blast, gas_over, pool_over, pick, gas_chain, liquid_chain, toxic_chain, chain_in, chain_of, route_in, exact_in}
-use Rattle.rate_gap.specs.Rounding.{area_rounded, gas_equals, gas_defined, pool_defined, slack_defined, pool_at_least, pool_below}
+use Rattle.rate_gap.proofs.Rounding.{area_rounded, gas_equals, gas_defined, pool_defined, slack_defined, pool_at_least, pool_below}
 use Rattle.rate_gap.specs.Claim.{slack_in, Near, RatesNear}
 
 -- a rate that its answer's eight bytes hold, beside the chain of its card

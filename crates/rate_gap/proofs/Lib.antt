@@ -1,2 +1,3 @@
 pub mod Gap
 pub mod Close
+pub mod Rounding

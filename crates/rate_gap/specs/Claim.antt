@@ -6,7 +6,7 @@ use Rattle.farthest.specs.declared.Leaders.{Leaders}
 use Rattle.header.specs.Header.{answer_size, count_of}
 use Rattle.cards.specs.Register.{buffer_of}
 use Rattle.ordering.specs.Claim.{card_at, Accepts}
-use Rattle.rate_gap.specs.Fractions.{Fraction, ◌over◌, ◌times◌, ◌plus◌, Defined, ◌at-most◌, ◌below◌, ◌equals◌}
+use Rattle.rate_gap.specs.Fractions.{Fraction, ◌over◌, ◌times◌, ◌plus◌, Defined, ◌at_most◌, ◌below◌, ◌equals◌}
 use Rattle.rate_gap.specs.Exact.{Chain, gas, pool, blast, none, chain_of, route_in, exact_in}
 
 -- "Sixteen bytes a card: card number 4, route 1, table 1, rate 8, distance 2.": the route and the rate that the call leaves in the answer

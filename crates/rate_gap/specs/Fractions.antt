@@ -23,9 +23,9 @@ abbrev pub ◌plus◌ : Fraction → Fraction → Fraction
 abbrev pub Defined : Fraction → Type 0
 Defined a = 0 < a.denominator
 
-infix 50 ◌at-most◌
-abbrev pub ◌at-most◌ : Fraction → Fraction → Type 0
-◌at-most◌ a b = a.numerator * b.denominator ≤ b.numerator * a.denominator
+infix 50 ◌at_most◌
+abbrev pub ◌at_most◌ : Fraction → Fraction → Type 0
+◌at_most◌ a b = a.numerator * b.denominator ≤ b.numerator * a.denominator
 
 -- strictly
 infix 50 ◌below◌

@@ -1,7 +1,6 @@
 pub mod Fractions
 pub mod Exact
 pub mod Claim
-pub mod Rounding
 pub mod RateLines
 pub mod Vectors
 pub mod Agreed

@@ -149,9 +149,9 @@ says cas tenths = go (among cas (map solution_cas b3)) (bad_percent cas tenths) 
   where
     line_read_lem : (x : Found) → among cas (map solution_cas b3) ≡ true → bad_percent cas tenths ≡ false → Rightly tenths (lines_of cas b3) x → Says cas tenths (line_read x)
     line_read_lem none p q r =
-        let in-range = neither (eqb tenths 0) (ltb (highest (lines_of cas b3)) tenths) q in
-        let some : tenths ≡ 0 → ⊥ = eqb-false tenths 0 in-range.0 in
-        let top : tenths ≤ highest (lines_of cas b3) = ltb-false (highest (lines_of cas b3)) tenths in-range.1 in
+        let in_range = neither (eqb tenths 0) (ltb (highest (lines_of cas b3)) tenths) q in
+        let some : tenths ≡ 0 → ⊥ = eqb-false tenths 0 in_range.0 in
+        let top : tenths ≤ highest (lines_of cas b3) = ltb-false (highest (lines_of cas b3)) tenths in_range.1 in
         let m = highest_stands (lines_of cas b3) (omega arith) in
         absurd (omega (arith, r m.0 m.1, m.2))
     line_read_lem (found line) p q r =

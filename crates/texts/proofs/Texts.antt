@@ -91,5 +91,5 @@ same_bytes first second fa sa a b =
 pub strict_again : StrictAgain
 unfolding strict_text
 strict_again register again all a r =
-    let written-cards = (strict_read register (told_accepted register all a)).same in
-    ap strict_lines (cards_same (sym (read_is (strict_text register) again r).same ∙ written-cards))
+    let written_cards = (strict_read register (told_accepted register all a)).same in
+    ap strict_lines (cards_same (sym (read_is (strict_text register) again r).same ∙ written_cards))

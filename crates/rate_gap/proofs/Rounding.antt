@@ -7,7 +7,7 @@ use Rattle.release.specs.declared.Containment.{Containment}
 use Rattle.release.specs.declared.Containment.TheVariants.{Open, Dike, Building, ShedWithDoors}
 use Rattle.release.specs.Rates.{gas_rate, pool_rate}
 use Rattle.pool_area.specs.Pool.{full_area, held, spilt, diked_area, pool_area}
-use Rattle.rate_gap.specs.Fractions.{Fraction, ◌over◌, ◌plus◌, Defined, ◌at-most◌, ◌below◌, ◌equals◌}
+use Rattle.rate_gap.specs.Fractions.{Fraction, ◌over◌, ◌plus◌, Defined, ◌at_most◌, ◌below◌, ◌equals◌}
 use Rattle.rate_gap.specs.Exact.{exact_diked, exact_area, exact_gas, exact_pool}
 use Rattle.rate_gap.specs.Claim.{slack}
 

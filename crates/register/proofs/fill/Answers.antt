@@ -1,0 +1,21 @@
+-- `register::fill` meets its contract: a refused header leaves the buffer as it was, and a good one says that there is room for
+-- the calls behind it.
+-- Assumes nothing.
+use Rattle.cards.proofs.Laws.{header_refused, header_kept, header_good, header_filled, good}
+use borrow.Author.Rules.{rules}
+use Rattle.register.proofs.fill.Goals as goal
+
+pub returns-in_default : goal.returns-in_default
+returns-in_default c = search (header_refused, header_kept, rules)
+
+pub slice_bounds-answer_all-count : goal.slice_bounds-answer_all-count
+slice_bounds-answer_all-count c = search (good, rules)
+
+pub slice_bounds-answer_all-start : goal.slice_bounds-answer_all-start
+slice_bounds-answer_all-start c = search (good, rules)
+
+pub answer_all-requires : goal.answer_all-requires
+answer_all-requires c = search (good, rules)
+
+pub returns : goal.returns
+returns c = search (header_good, header_filled, rules)
