@@ -40,7 +40,7 @@ read_toxic reading.Beyond number s = answered.Refused refusal.Beyond
 -- card's route, rate or table reads", then the table
 abbrev pub planned_answer : Planned → ℕ → ToxicCard → Answered
 planned_answer (planned.Planned s) number card =
-    read_toxic (reading_of s.table card.ground s.rate.0 s.endpoint) number s
+    read_toxic (reading_of s.table card.topography s.rate.0 s.endpoint) number s
 planned_answer planned.Mismatch number card = answered.Refused refusal.Mismatch
 
 -- "Route 3, blast: rate 0."; document 02, A7: "new flammable answers carry table number 0"

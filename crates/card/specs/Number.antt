@@ -29,7 +29,7 @@ read_number (reading.Distance d) n s e = ap number_in (sym e)
 read_number reading.Beyond n s e = let z : ◌≡◌ {A = ℕ} 0 1 = cc in clash z
 
 plan_number : (p : Planned) (n : ℕ) (card : ToxicCard) {a : Answer} → planned_answer p n card ≡ answered.Is a → a.number ≡ n
-plan_number (planned.Planned s) n card e = read_number (reading_of s.table card.ground s.rate.0 s.endpoint) n s e
+plan_number (planned.Planned s) n card e = read_number (reading_of s.table card.topography s.rate.0 s.endpoint) n s e
 plan_number planned.Mismatch n card e = let z : ◌≡◌ {A = ℕ} 0 1 = cc in clash z
 
 meaning_number : (m : Meaning) (n : ℕ) {a : Answer} → answer_for m n ≡ answered.Is a → a.number ≡ n

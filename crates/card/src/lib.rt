@@ -40,11 +40,11 @@ pub enum Answered {
 
 // A toxic scenario, read off its table.
 fn toxic_read(number: u32, card: ToxicCard, scenario: Scenario) -> Answered
-    ensures { result ≡ read_toxic (reading_of scenario.table card.ground scenario.rate.0 scenario.endpoint) number scenario }
+    ensures { result ≡ read_toxic (reading_of scenario.table card.topography scenario.rate.0 scenario.endpoint) number scenario }
 {
-    let ground = card.ground;
+    let topography = card.topography;
     let rate = scenario.rate;
-    let reading = dispersion::read(scenario.table, ground, rate, scenario.endpoint);
+    let reading = dispersion::read(scenario.table, topography, rate, scenario.endpoint);
     let Reading::Distance(distance) = reading else {
         return Answered::Refused(Refusal::Beyond);
     };

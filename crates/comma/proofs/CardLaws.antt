@@ -49,7 +49,7 @@ unfolding fields_of card_bytes two_bytes four_bytes
 fields_read f fits = λ i. record {
   kind = f.kind;
   state = f.state;
-  ground = f.ground;
+  topography = f.topography;
   containment = f.containment;
   cas = read_four f.cas [] fits.cas i;
   pounds = read_four f.pounds [] fits.pounds i;
@@ -111,7 +111,7 @@ unfolding fields_of
 fields_fitting b all = record {
   kind = all 0;
   state = all 1;
-  ground = all 2;
+  topography = all 2;
   containment = all 3;
   cas = four_small b 4 all;
   pounds = four_small b 8 all;

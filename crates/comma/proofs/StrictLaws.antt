@@ -26,7 +26,7 @@ use Rattle.comma.specs.Strict.{cas_text, heat_text, tenths_text, field_texts, st
 pub record Fitting (f : Fields) : Type 0 where
   pub kind : f.kind < 256
   pub state : f.state < 256
-  pub ground : f.ground < 256
+  pub topography : f.topography < 256
   pub containment : f.containment < 256
   pub cas : f.cas < 2 ^ 32
   pub pounds : f.pounds < 2 ^ 32
@@ -189,7 +189,7 @@ line_short f fits =
       arith,
       digits_short 2 f.kind (omega arith),
       digits_short 2 f.state (omega arith),
-      digits_short 2 f.ground (omega arith),
+      digits_short 2 f.topography (omega arith),
       digits_short 2 f.containment (omega arith),
       cas_short 6 f.cas (omega arith),
       digits_short 9 f.pounds (omega arith),
@@ -213,7 +213,7 @@ texts_read f fits =
     rw (
       decimal_written 255 f.kind (omega arith),
       decimal_written 255 f.state (omega arith),
-      decimal_written 255 f.ground (omega arith),
+      decimal_written 255 f.topography (omega arith),
       decimal_written 255 f.containment (omega arith),
       cas_written f.cas fits.cas,
       decimal_written 4_294_967_295 f.pounds (omega arith),
@@ -300,7 +300,7 @@ unfolding codes_in amounts_in lasts_in
 codes_fit fields =
     next_fits of_one_byte fields _ (λ kind r₁ h₁.
     next_fits of_one_byte r₁ _ (λ state r₂ h₂.
-    next_fits of_one_byte r₂ _ (λ ground r₃ h₃.
+    next_fits of_one_byte r₂ _ (λ topography r₃ h₃.
     next_fits of_one_byte r₃ _ (λ containment r₄ h₄.
     next_fits form.Cas r₄ _ (λ cas r₅ h₅.
     next_fits of_four_bytes r₅ _ (λ pounds r₆ h₆.

@@ -24,11 +24,11 @@ ascii (String.◌∷◌ c rest) = code c ∷ ascii rest
 
 -- kind, state, ground, containment, CAS number, pounds, area, wall, temperature (unsigned) or concentration, card number
 abbrev pub card : ℕ → ℕ → ℕ → ℕ → ℕ → ℕ → ℕ → ℕ → ℕ → ℕ → Fields
-card kind state ground containment cas pounds area wall heat number =
+card kind state topography containment cas pounds area wall heat number =
     record {
       kind = kind;
       state = state;
-      ground = ground;
+      topography = topography;
       containment = containment;
       cas = cas;
       pounds = pounds;

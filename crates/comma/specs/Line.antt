@@ -61,7 +61,7 @@ lasts_in codes amounts fields =
     (record {
       kind = codes.kind;
       state = codes.state;
-      ground = codes.ground;
+      topography = codes.topography;
       containment = codes.containment;
       cas = amounts.cas;
       pounds = amounts.pounds;
@@ -84,9 +84,9 @@ unfoldable pub codes_in : List (List ℕ) → Line
 codes_in fields =
     next of_one_byte fields (λ kind behind_kind.
     next of_one_byte behind_kind (λ state behind_state.
-    next of_one_byte behind_state (λ ground behind_ground.
+    next of_one_byte behind_state (λ topography behind_ground.
     next of_one_byte behind_ground (λ containment behind_containment.
-    amounts_in (record { kind = kind; state = state; ground = ground; containment = containment }) behind_containment))))
+    amounts_in (record { kind = kind; state = state; topography = topography; containment = containment }) behind_containment))))
 
 -- "A line is at most 200 bytes, then a line feed"
 abbrev pub longest_line : ℕ

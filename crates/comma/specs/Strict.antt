@@ -24,7 +24,7 @@ unfoldable pub field_texts : Fields → List (List ℕ)
 field_texts f =
     digits f.kind
     ∷ digits f.state
-    ∷ digits f.ground
+    ∷ digits f.topography
     ∷ digits f.containment
     ∷ cas_text f.cas
     ∷ digits f.pounds

@@ -46,7 +46,7 @@ cards_in text = cards_from 1 (lines_of text)
 -- the 24 bytes of a card
 unfoldable pub card_bytes : Fields → List ℕ
 card_bytes f =
-    f.kind ∷ f.state ∷ f.ground ∷ f.containment
+    f.kind ∷ f.state ∷ f.topography ∷ f.containment
     ∷ (four_bytes f.cas ++ (four_bytes f.pounds ++ (four_bytes f.area
     ++ (two_bytes f.wall ++ (two_bytes f.heat ++ four_bytes f.number)))))
 

@@ -16,7 +16,7 @@ pub enum Line {
 pub struct Codes {
     pub kind: u8,
     pub state: u8,
-    pub ground: u8,
+    pub topography: u8,
     pub containment: u8,
 }
 

@@ -92,11 +92,11 @@ endless_at : (n : ℕ) → endless (get_or tables n unprinted) ≡ true
 unfolding tables uppers
 endless_at n = every_at endless tables unprinted refl refl n
 
-module _ (ground : Ground) (rate endpoint : ℕ) where
+module _ (topography : Ground) (rate endpoint : ℕ) where
   within : (table : List Range) → endless (ranges table) ≡ true → past rate endpoint table ≡ false
   within table e = never_past rate endpoint table (eqb-true (length table) (suc (length (uppers table))) e)
 
-  pub table_beyond : (t : Table) → in_order t ≡ true → endless t ≡ true → beyond_table t ground rate endpoint ≡ is_beyond (read_in t ground rate endpoint)
+  pub table_beyond : (t : Table) → in_order t ≡ true → endless t ≡ true → beyond_table t topography rate endpoint ≡ is_beyond (read_in t topography rate endpoint)
   unfolding beyond_table above_last last_in_use read_in in_order by_range answered
   table_beyond (ranges table) o e =
       ap (λ t. both t (not (eqb (in_use (map (λ range. distance (mark_of range)) table) (length table - 1)) mile_limit))) (within table e)
@@ -104,11 +104,11 @@ module _ (ground : Ground) (rate endpoint : ℕ) where
   table_beyond (grid rates endpoints rows) o e =
       row_beyond rates (from_column (closest_column endpoint endpoints) rows) rate (both_true (climbs (thousandths rates)) (climbs endpoints) o).0
   table_beyond (lines table) o e =
-      ap (λ n. both (ltb (last_of (thousandths (map rate_of table))) rate) (not (eqb (in_use (map (entry_of ground) table) (n - 1)) mile_limit))) (sym (length-map table rate_of))
-      ∙ row_beyond (map rate_of table) (map (entry_of ground) table) rate o
+      ap (λ n. both (ltb (last_of (thousandths (map rate_of table))) rate) (not (eqb (in_use (map (entry_of topography) table) (n - 1)) mile_limit))) (sym (length-map table rate_of))
+      ∙ row_beyond (map rate_of table) (map (entry_of topography) table) rate o
   table_beyond unprinted o e = refl
 
   -- 11 holds exactly where the table does not answer
-  pub reading_beyond : (n : ℕ) → beyond_table (get_or tables n unprinted) ground rate endpoint ≡ is_beyond (reading_of n ground rate endpoint)
+  pub reading_beyond : (n : ℕ) → beyond_table (get_or tables n unprinted) topography rate endpoint ≡ is_beyond (reading_of n topography rate endpoint)
   unfolding reading_of
   reading_beyond n = table_beyond (get_or tables n unprinted) (in_order_lem n) (endless_at n)

@@ -86,12 +86,12 @@ heat_refused true s e = let z : ◌≡◌ {A = ℕ} 0 1 = cc in clash z
 heat_refused false s e = cc
 
 held_refused : (h : Held) (f : Fields) (s : State) (g : GroundByte) {r : Refusal} → shaped_held h f s g ≡ shape.Refused r → refusal.Form ≡ r
-held_refused (held.Is c) f s (ground_byte.Is g) e = heat_refused (heat_fits s f.heat) (record { state = s; ground = g; containment = c }) e
+held_refused (held.Is c) f s (ground_byte.Is g) e = heat_refused (heat_fits s f.heat) (record { state = s; topography = g; containment = c }) e
 held_refused (held.Is c) f s ground_byte.Unlisted e = cc
 held_refused held.Filled f s g e = cc
 
 state_refused : (x : StateByte) (f : Fields) {r : Refusal} → shaped_state x f ≡ shape.Refused r → refusal.Form ≡ r
-state_refused (stateByte.Is s) f e = held_refused (held_of f.containment f.area f.wall) f s (ground_of f.ground) e
+state_refused (stateByte.Is s) f e = held_refused (held_of f.containment f.area f.wall) f s (ground_of f.topography) e
 state_refused stateByte.Unlisted f e = cc
 
 blank_refused : (b : Bool) {r : Refusal} → shaped_blank b ≡ shape.Refused r → refusal.Form ≡ r
@@ -128,7 +128,7 @@ unfolding bad_cas
 cas_flammable card e = ap (cas_in card) e ∙ either_last (not (of_flammable card))
 
 -- 11 for each kind
-beyond_toxic : (card : List ℕ) (standing : Standing) → Stands (fields_of card) standing → beyond card ≡ beyond_plan (plan_of (card_from (fields_of card) standing)) standing.ground
+beyond_toxic : (card : List ℕ) (standing : Standing) → Stands (fields_of card) standing → beyond card ≡ beyond_plan (plan_of (card_from (fields_of card) standing)) standing.topography
 unfolding beyond fields_of
 beyond_toxic card standing from =
     ap (λ k. both (eqb k 1) (beyond_plan (plan_of (toxic_card card)) (ground_in (byte_at card 2)))) from.kind
@@ -196,10 +196,10 @@ toxic_verdict told refusing card standing v e h =
 abbrev verdict_for : ℕ → Meaning → Verdict
 verdict_for n m = verdict_of (answer_for m n)
 
-plan_verdict : (n : ℕ) (p : Planned) (card : ToxicCard) → verdict_of (planned_answer p n card) ≡ pick (is_mismatch p) refusal.Mismatch (pick (beyond_plan p card.ground) refusal.Beyond passed)
+plan_verdict : (n : ℕ) (p : Planned) (card : ToxicCard) → verdict_of (planned_answer p n card) ≡ pick (is_mismatch p) refusal.Mismatch (pick (beyond_plan p card.topography) refusal.Beyond passed)
 plan_verdict n (planned.Planned s) card =
-    go (reading_of s.table card.ground s.rate.0 s.endpoint)
-    ∙ ap (λ t. pick t refusal.Beyond passed) (sym (reading_beyond card.ground s.rate.0 s.endpoint s.table))
+    go (reading_of s.table card.topography s.rate.0 s.endpoint)
+    ∙ ap (λ t. pick t refusal.Beyond passed) (sym (reading_beyond card.topography s.rate.0 s.endpoint s.table))
   where
     go : (x : Reading) → verdict_of (read_toxic x n s) ≡ pick (is_beyond x) refusal.Beyond passed
     go (reading.Distance d) = refl

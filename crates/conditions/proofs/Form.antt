@@ -205,7 +205,7 @@ module _ (f : Fields) (s : State) (G C A W H : Bool) where
       ap (λ t. either t (either C (either A (either W (either H false))))) p
   in_turn (ground_byte.Is d) (held.Is c) p q r =
       ap₂ (λ t u. either t u) p (regroup C A W (either H false) ∙ ap (λ t. either t (either H false)) q)
-      ∙ (either_last H ∙ (r ∙ heat_shape (heat_fits s f.heat) (record { state = s; ground = d; containment = c })))
+      ∙ (either_last H ∙ (r ∙ heat_shape (heat_fits s f.heat) (record { state = s; topography = d; containment = c })))
 
 -- a toxic card's bytes and fields refuse it where one of them does
 module _ (card : List ℕ) where

@@ -33,7 +33,7 @@ card_with f standing entry tenths =
       cas = f.cas;
       entry = entry;
       state = standing.state;
-      ground = standing.ground;
+      topography = standing.topography;
       quantity = record { 0 = f.pounds };
       tenths = tenths;
       containment = standing.containment;
@@ -73,9 +73,9 @@ held_in_lem (suc (suc (suc (suc n)))) area wall c e = not_held (sym (no_held (su
 
 -- the card of the bytes, and its ground, are those of its form
 module _ (card : List ℕ) (standing : Standing) (from : Stands (fields_of card) standing) where
-  pub ground_made : ground_in (byte_at card 2) ≡ standing.ground
+  pub ground_made : ground_in (byte_at card 2) ≡ standing.topography
   unfolding fields_of
-  ground_made = ground_in_lem (byte_at card 2) standing.ground from.ground
+  ground_made = ground_in_lem (byte_at card 2) standing.topography from.topography
 
   pub card_made : toxic_card card ≡ card_from (fields_of card) standing
   unfolding fields_of
@@ -83,6 +83,6 @@ module _ (card : List ℕ) (standing : Standing) (from : Stands (fields_of card)
       card_from (fields_of card)
       (record {
         state = state_in_lem (byte_at card 1) standing.state from.state i;
-        ground = ground_in_lem (byte_at card 2) standing.ground from.ground i;
+        topography = ground_in_lem (byte_at card 2) standing.topography from.topography i;
         containment = held_in_lem (byte_at card 3) (fields_of card).area (fields_of card).wall standing.containment from.held i;
       })

@@ -179,16 +179,16 @@ above_last unprinted rate endpoint = true
 
 -- "a last entry in use": the entry in use in the last row or range
 unfoldable pub last_in_use : Table → Ground → ℕ → ℕ
-last_in_use (ranges table) ground endpoint = in_use (map (λ range. distance (mark_of range)) table) (length table - 1)
-last_in_use (grid rates endpoints rows) ground endpoint =
+last_in_use (ranges table) topography endpoint = in_use (map (λ range. distance (mark_of range)) table) (length table - 1)
+last_in_use (grid rates endpoints rows) topography endpoint =
     in_use (from_column (closest_column endpoint endpoints) rows) (length rates - 1)
-last_in_use (lines table) ground endpoint = in_use (map (entry_of ground) table) (length table - 1)
-last_in_use unprinted ground endpoint = 0
+last_in_use (lines table) topography endpoint = in_use (map (entry_of topography) table) (length table - 1)
+last_in_use unprinted topography endpoint = 0
 
 -- "a last entry in use of 25 miles is answered; any other is refusal 11"
 unfoldable pub beyond_table : Table → Ground → ℕ → ℕ → Bool
-beyond_table table ground rate endpoint =
-    both (above_last table rate endpoint) (not (eqb (last_in_use table ground endpoint) mile_limit))
+beyond_table table topography rate endpoint =
+    both (above_last table rate endpoint) (not (eqb (last_in_use table topography endpoint) mile_limit))
 
 -- what bytes 1 to 3 say of a card whose form is sound: "1 gas, 2 gas liquefied under pressure, 3 gas liquefied by refrigeration
 -- alone, 4 liquid", and 5 a solution
@@ -227,7 +227,7 @@ toxic_card card =
       cas = (fields_of card).cas;
       entry = substance_of (fields_of card);
       state = state_in (byte_at card 1);
-      ground = ground_in (byte_at card 2);
+      topography = ground_in (byte_at card 2);
       quantity = record { 0 = (fields_of card).pounds };
       tenths = tenths_of (fields_of card);
       containment = held_in (byte_at card 3) (fields_of card).area (fields_of card).wall;
@@ -235,8 +235,8 @@ toxic_card card =
 
 -- the table, the rate and the endpoint are those that demand 2 gives the card
 abbrev pub beyond_plan : Planned → Ground → Bool
-beyond_plan (planned.Planned s) ground = beyond_table (get_or tables s.table unprinted) ground s.rate.0 s.endpoint
-beyond_plan planned.Mismatch ground = false
+beyond_plan (planned.Planned s) topography = beyond_table (get_or tables s.table unprinted) topography s.rate.0 s.endpoint
+beyond_plan planned.Mismatch topography = false
 
 -- 11: "beyond the table". Document 02, A7: "Number 11 no longer comes from a flammable card."
 unfoldable pub beyond : List ℕ → Bool

@@ -26,12 +26,12 @@ pub lines_means : (table : List Line) (points : List ℕ) (last : ℕ) (rural ur
     → points ≡ cuts larger (thousandths (map rate_of table)) → last ≡ last_of (thousandths (map rate_of table))
     → rural ≡ running 0 (map (entry_of Rural) table) → urban ≡ running 0 (map (entry_of Urban) table)
     → climbs (thousandths (map rate_of table)) ≡ true → length table ≡ suc (length points)
-    → (ground : Ground) (rate endpoint : ℕ)
-    → answered (ltb last rate) (get_or (column_of ground rural urban) (first_at_least rate points) 0) ≡ read_in (lines table) ground rate endpoint
+    → (topography : Ground) (rate endpoint : ℕ)
+    → answered (ltb last rate) (get_or (column_of topography rural urban) (first_at_least rate points) 0) ≡ read_in (lines table) topography rate endpoint
 unfolding read_in
-lines_means table points last rural urban p l r u c n ground rate endpoint =
-    row_means (map rate_of table) (map (entry_of ground) table) points last (column_of ground rural urban) p l (column ground) c
-    (length-map table (entry_of ground) ∙ n)
+lines_means table points last rural urban p l r u c n topography rate endpoint =
+    row_means (map rate_of table) (map (entry_of topography) table) points last (column_of topography rural urban) p l (column topography) c
+    (length-map table (entry_of topography) ∙ n)
     rate
   where
     column : (g : Ground) → column_of g rural urban ≡ running 0 (map (entry_of g) table)
@@ -39,19 +39,19 @@ lines_means table points last rural urban p l r u c n ground rate endpoint =
     column Urban = u
 
 -- Table 5 + k is read by the rows and columns of Table 5
-dense_table : (k : ℕ) → k < 4 → (ground : Ground) (rate endpoint : ℕ)
-    → by_row rates5 (from_column (closest_column endpoint endpoints5) (get_or dense_tables k [])) rate ≡ reading_of (5 + k) ground rate endpoint
+dense_table : (k : ℕ) → k < 4 → (topography : Ground) (rate endpoint : ℕ)
+    → by_row rates5 (from_column (closest_column endpoint endpoints5) (get_or dense_tables k [])) rate ≡ reading_of (5 + k) topography rate endpoint
 unfolding reading_of read_in tables dense_tables
-dense_table zero h ground rate endpoint = refl
-dense_table (suc zero) h ground rate endpoint = refl
-dense_table (suc (suc zero)) h ground rate endpoint = refl
-dense_table (suc (suc (suc zero))) h ground rate endpoint = refl
-dense_table (suc (suc (suc (suc k)))) h ground rate endpoint =
+dense_table zero h topography rate endpoint = refl
+dense_table (suc zero) h topography rate endpoint = refl
+dense_table (suc (suc zero)) h topography rate endpoint = refl
+dense_table (suc (suc (suc zero))) h topography rate endpoint = refl
+dense_table (suc (suc (suc (suc k)))) h topography rate endpoint =
     absurd (not-suc-le-zero (le_of_suc-le-suc (le_of_suc-le-suc (le_of_suc-le-suc (le_of_suc-le-suc h)))))
 
-pub dense_reading : (table : ℕ) → 4 < table → table ≤ 8 → (ground : Ground) (rate endpoint : ℕ)
-    → by_row rates5 (from_column (closest_column endpoint endpoints5) (get_or dense_tables (table - 5) [])) rate ≡ reading_of table ground rate endpoint
-dense_reading table low high ground rate endpoint =
+pub dense_reading : (table : ℕ) → 4 < table → table ≤ 8 → (topography : Ground) (rate endpoint : ℕ)
+    → by_row rates5 (from_column (closest_column endpoint endpoints5) (get_or dense_tables (table - 5) [])) rate ≡ reading_of table topography rate endpoint
+dense_reading table low high topography rate endpoint =
     let k : ℕ = table - 5 in
     let t : 5 + k ≡ table = omega arith in
-    dense_table k (omega arith) ground rate endpoint ∙ ap (λ n. reading_of n ground rate endpoint) t
+    dense_table k (omega arith) topography rate endpoint ∙ ap (λ n. reading_of n topography rate endpoint) t

@@ -53,12 +53,12 @@ column_of Urban rural urban = urban
 
 -- what a table answers at a rate in thousandths of a pound per minute and an endpoint in hundred-thousandths of mg/L
 unfoldable pub read_in : Table → Ground → ℕ → ℕ → Reading
-read_in (ranges table) ground rate endpoint = by_range table rate endpoint
-read_in (grid rates endpoints rows) ground rate endpoint =
+read_in (ranges table) topography rate endpoint = by_range table rate endpoint
+read_in (grid rates endpoints rows) topography rate endpoint =
     by_row rates (from_column (closest_column endpoint endpoints) rows) rate
-read_in (lines table) ground rate endpoint = by_row (map rate_of table) (map (entry_of ground) table) rate
-read_in unprinted ground rate endpoint = Beyond
+read_in (lines table) topography rate endpoint = by_row (map rate_of table) (map (entry_of topography) table) rate
+read_in unprinted topography rate endpoint = Beyond
 
 -- what the table of a number answers
 unfoldable pub reading_of : ℕ → Ground → ℕ → ℕ → Reading
-reading_of table ground rate endpoint = read_in (get_or tables table unprinted) ground rate endpoint
+reading_of table topography rate endpoint = read_in (get_or tables table unprinted) topography rate endpoint

@@ -36,14 +36,14 @@ fn by_row(
     last: u64,
     rural: &[u16],
     urban: &[u16],
-    surroundings: Ground,
+    topography: Ground,
     rate: u64,
 ) -> Reading
     requires { (length rural.now ≡ length cuts.now + 1) × (length urban.now ≡ length cuts.now + 1) }
-    ensures { result ≡ answered (ltb last rate) (get_or (column_of surroundings rural.now urban.now) (first_at_least rate cuts.now) 0) }
+    ensures { result ≡ answered (ltb last rate) (get_or (column_of topography rural.now urban.now) (first_at_least rate cuts.now) 0) }
 {
     let row = search::first_at_least(cuts, rate);
-    match surroundings {
+    match topography {
         Ground::Rural => rules::answer(last, rate, rural[row]),
         Ground::Urban => rules::answer(last, rate, urban[row]),
     }
@@ -52,7 +52,7 @@ fn by_row(
 // Tables 1 to 4, each for one ground, whichever the card's is.
 fn neutral(table: u8, rate: u64, endpoint: u32) -> Reading
     requires { table ≤ 4 }
-    ensures { (surroundings : Ground) → result ≡ reading_of table surroundings rate endpoint }
+    ensures { (topography : Ground) → result ≡ reading_of table topography rate endpoint }
 {
     match table {
         1 => neutral::table_1(rate, endpoint),
@@ -64,31 +64,31 @@ fn neutral(table: u8, rate: u64, endpoint: u32) -> Reading
 }
 
 // Tables 9 and 10, for ammonia, at whichever endpoint.
-fn ammonia(table: u8, ground: Ground, rate: u64) -> Reading
+fn ammonia(table: u8, topography: Ground, rate: u64) -> Reading
     requires { (8 < table) × (table ≤ 10) }
-    ensures { (endpoint : ℕ) → result ≡ reading_of table ground rate endpoint }
+    ensures { (endpoint : ℕ) → result ≡ reading_of table topography rate endpoint }
 {
     if table == 9 {
-        return by_row(&UPTO_9, LAST_9, &RURAL_9, &URBAN_9, ground, rate);
+        return by_row(&UPTO_9, LAST_9, &RURAL_9, &URBAN_9, topography, rate);
     }
-    by_row(&UPTO_10, LAST_10, &RURAL_10, &URBAN_10, ground, rate)
+    by_row(&UPTO_10, LAST_10, &RURAL_10, &URBAN_10, topography, rate)
 }
 
 // Tables 11 and 12, for chlorine and sulfur dioxide, at whichever endpoint; no table has a higher number.
-fn chlorine_sulfur(table: u8, ground: Ground, rate: u64) -> Reading
+fn chlorine_sulfur(table: u8, topography: Ground, rate: u64) -> Reading
     requires { 10 < table }
-    ensures { (endpoint : ℕ) → result ≡ reading_of table ground rate endpoint }
+    ensures { (endpoint : ℕ) → result ≡ reading_of table topography rate endpoint }
 {
     match table {
-        11 => by_row(&UPTO_11, LAST_11, &RURAL_11, &URBAN_11, ground, rate),
-        12 => by_row(&UPTO_12, LAST_12, &RURAL_12, &URBAN_12, ground, rate),
+        11 => by_row(&UPTO_11, LAST_11, &RURAL_11, &URBAN_11, topography, rate),
+        12 => by_row(&UPTO_12, LAST_12, &RURAL_12, &URBAN_12, topography, rate),
         _ => Reading::Beyond,
     }
 }
 
 // What a table answers at a rate and an endpoint in hundred-thousandths of mg/L, on the card's ground.
-pub fn read(table: u8, ground: Ground, rate: PoundsPerMinute, endpoint: u32) -> Reading
-    ensures { result ≡ reading_of table ground rate.0 endpoint }
+pub fn read(table: u8, topography: Ground, rate: PoundsPerMinute, endpoint: u32) -> Reading
+    ensures { result ≡ reading_of table topography rate.0 endpoint }
 {
     let thousandths = rate.0;
     if table <= 4 {
@@ -98,7 +98,7 @@ pub fn read(table: u8, ground: Ground, rate: PoundsPerMinute, endpoint: u32) -> 
         return dense::read(table, thousandths, endpoint);
     }
     if table <= 10 {
-        return ammonia(table, ground, thousandths);
+        return ammonia(table, topography, thousandths);
     }
-    chlorine_sulfur(table, ground, thousandths)
+    chlorine_sulfur(table, topography, thousandths)
 }

@@ -8,15 +8,15 @@ use Rattle.fields.specs.Layout.{fields_of}
 use Rattle.fields.specs.declared.Fields.{Fields}
 
 pub fields_is : (card : List ℕ) (f : Fields)
-    → f.kind ≡ byte_at card 0 → f.state ≡ byte_at card 1 → f.ground ≡ byte_at card 2 → f.containment ≡ byte_at card 3
+    → f.kind ≡ byte_at card 0 → f.state ≡ byte_at card 1 → f.topography ≡ byte_at card 2 → f.containment ≡ byte_at card 3
     → f.cas ≡ four_at card 4 → f.pounds ≡ four_at card 8 → f.area ≡ four_at card 12
     → f.wall ≡ two_at card 16 → f.heat ≡ two_at card 18 → f.number ≡ four_at card 20 → f ≡ fields_of card
 unfolding fields_of
-fields_is card f kind state ground containment cas pounds area wall heat number = λ i.
+fields_is card f kind state topography containment cas pounds area wall heat number = λ i.
     record {
       kind = kind i;
       state = state i;
-      ground = ground i;
+      topography = topography i;
       containment = containment i;
       cas = cas i;
       pounds = pounds i;

@@ -12,7 +12,7 @@ fields_of bytes =
     record {
       kind = byte_at bytes 0;
       state = byte_at bytes 1;
-      ground = byte_at bytes 2;
+      topography = byte_at bytes 2;
       containment = byte_at bytes 3;
       cas = four_at bytes 4;
       pounds = four_at bytes 8;

@@ -8,7 +8,7 @@ ghost use Rattle.fields.specs.Layout.{fields_of};
 pub struct Fields {
     pub kind: u8,
     pub state: u8,
-    pub ground: u8,
+    pub topography: u8,
     pub containment: u8,
     pub cas: u32,
     pub pounds: u32,
@@ -26,7 +26,7 @@ pub fn fields_of(card: &[u8]) -> Fields
     Fields {
         kind: buffer::byte(card, 0),
         state: buffer::byte(card, 1),
-        ground: buffer::byte(card, 2),
+        topography: buffer::byte(card, 2),
         containment: buffer::byte(card, 3),
         cas: buffer::four(card, 4),
         pounds: buffer::four(card, 8),

@@ -112,7 +112,7 @@ sum_zero : (a b : ℕ) → eqb (a + b) 0 ≡ both (eqb a 0) (eqb b 0)
 sum_zero zero b = ap (λ n. eqb n 0) (zero-add b)
 sum_zero (suc a) b = ne_eqb (suc a + b) 0 (λ e. omega arith) ∙ ap (λ t. both t (eqb b 0)) (sym (ne_eqb (suc a) 0 (λ e. omega arith)))
 
-pub blank_sum : (f : Fields) → eqb (f.state + (f.ground + (f.containment + (f.area + (f.wall + f.heat))))) 0 ≡ blank f
+pub blank_sum : (f : Fields) → eqb (f.state + (f.topography + (f.containment + (f.area + (f.wall + f.heat))))) 0 ≡ blank f
 unfolding blank
 blank_sum f =
     simp sum_zero
@@ -141,16 +141,16 @@ module _ (f : Fields) where
 
   pub no_held_shape : (x : StateByte) (s : State) (h : Held) → x ≡ state_of f.state → x ≡ stateByte.Is s → h ≡ held_of f.containment f.area f.wall → h ≡ held.Filled → shape.Refused refusal.Form ≡ shaped_state (state_of f.state) f
   no_held_shape x s h e q g r =
-      ap (λ y. shaped_held y f s (ground_of f.ground)) (sym r ∙ g) ∙ ap (λ y. shaped_state y f) (sym q ∙ e)
+      ap (λ y. shaped_held y f s (ground_of f.topography)) (sym r ∙ g) ∙ ap (λ y. shaped_state y f) (sym q ∙ e)
 
-  pub no_ground_shape : (x : StateByte) (s : State) (h : Held) (c : Containment) (g : GroundByte) → x ≡ state_of f.state → x ≡ stateByte.Is s → h ≡ held_of f.containment f.area f.wall → h ≡ held.Is c → g ≡ ground_of f.ground → g ≡ ground_byte.Unlisted → shape.Refused refusal.Form ≡ shaped_state (state_of f.state) f
+  pub no_ground_shape : (x : StateByte) (s : State) (h : Held) (c : Containment) (g : GroundByte) → x ≡ state_of f.state → x ≡ stateByte.Is s → h ≡ held_of f.containment f.area f.wall → h ≡ held.Is c → g ≡ ground_of f.topography → g ≡ ground_byte.Unlisted → shape.Refused refusal.Form ≡ shaped_state (state_of f.state) f
   no_ground_shape x s h c g e q k r m n =
       ap (λ y. shaped_held (held.Is c) f s y) (sym n ∙ m)
-      ∙ (ap (λ y. shaped_held y f s (ground_of f.ground)) (sym r ∙ k) ∙ ap (λ y. shaped_state y f) (sym q ∙ e))
+      ∙ (ap (λ y. shaped_held y f s (ground_of f.topography)) (sym r ∙ k) ∙ ap (λ y. shaped_state y f) (sym q ∙ e))
 
-  pub heat_shape : (x : StateByte) (s : State) (h : Held) (c : Containment) (g : GroundByte) (d : Ground) (b v : Bool) (r : Shape) → x ≡ state_of f.state → x ≡ stateByte.Is s → h ≡ held_of f.containment f.area f.wall → h ≡ held.Is c → g ≡ ground_of f.ground → g ≡ ground_byte.Is d → b ≡ heat_fits s f.heat → b ≡ v → r ≡ shaped_heat v (record { state = s; ground = d; containment = c }) → r ≡ shaped_state (state_of f.state) f
+  pub heat_shape : (x : StateByte) (s : State) (h : Held) (c : Containment) (g : GroundByte) (d : Ground) (b v : Bool) (r : Shape) → x ≡ state_of f.state → x ≡ stateByte.Is s → h ≡ held_of f.containment f.area f.wall → h ≡ held.Is c → g ≡ ground_of f.topography → g ≡ ground_byte.Is d → b ≡ heat_fits s f.heat → b ≡ v → r ≡ shaped_heat v (record { state = s; topography = d; containment = c }) → r ≡ shaped_state (state_of f.state) f
   heat_shape x s h c g d b v r e q k l m n t u w =
       w
-      ∙ (ap (λ y. shaped_heat y (record { state = s; ground = d; containment = c })) (sym u ∙ t)
+      ∙ (ap (λ y. shaped_heat y (record { state = s; topography = d; containment = c })) (sym u ∙ t)
       ∙ (ap (λ y. shaped_held (held.Is c) f s y) (sym n ∙ m)
-      ∙ (ap (λ y. shaped_held y f s (ground_of f.ground)) (sym l ∙ k) ∙ ap (λ y. shaped_state y f) (sym q ∙ e))))
+      ∙ (ap (λ y. shaped_held y f s (ground_of f.topography)) (sym l ∙ k) ∙ ap (λ y. shaped_state y f) (sym q ∙ e))))

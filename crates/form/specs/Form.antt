@@ -90,20 +90,20 @@ shaped_heat false standing = shape.Refused refusal.Form
 
 abbrev pub shaped_held : Held → Fields → State → GroundByte → Shape
 shaped_held (held.Is c) f s (ground_byte.Is g) =
-    shaped_heat (heat_fits s f.heat) (record { state = s; ground = g; containment = c })
+    shaped_heat (heat_fits s f.heat) (record { state = s; topography = g; containment = c })
 shaped_held (held.Is c) f s ground_byte.Unlisted = shape.Refused refusal.Form
 shaped_held held.Filled f s g = shape.Refused refusal.Form
 
 abbrev pub shaped_state : StateByte → Fields → Shape
 shaped_state (stateByte.Is s) f =
-    shaped_held (held_of f.containment f.area f.wall) f s (ground_of f.ground)
+    shaped_held (held_of f.containment f.area f.wall) f s (ground_of f.topography)
 shaped_state stateByte.Unlisted f = shape.Refused refusal.Form
 
 -- "A flammable card has zero in bytes 1, 2, 3 and 12 to 19."
 unfoldable pub blank : Fields → Bool
 blank f =
     both (eqb f.state 0)
-    (both (eqb f.ground 0)
+    (both (eqb f.topography 0)
     (both (eqb f.containment 0) (both (eqb f.area 0) (both (eqb f.wall 0) (eqb f.heat 0)))))
 
 abbrev pub shaped_blank : Bool → Shape

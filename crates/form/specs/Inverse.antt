@@ -44,10 +44,10 @@ heat_shape : (b : Bool) {a standing : Standing} → shaped_heat b a ≡ shape.To
 heat_shape true e = shape_is e
 heat_shape false e = absurd (not_refused_shape e)
 
-held_shape : (f : Fields) (s : State) (h : Held) (g : GroundByte) {standing : Standing} → shaped_held h f s g ≡ shape.Toxic standing → (s ≡ standing.state) × (g ≡ ground_byte.Is standing.ground) × (h ≡ held.Is standing.containment)
+held_shape : (f : Fields) (s : State) (h : Held) (g : GroundByte) {standing : Standing} → shaped_held h f s g ≡ shape.Toxic standing → (s ≡ standing.state) × (g ≡ ground_byte.Is standing.topography) × (h ≡ held.Is standing.containment)
 held_shape f s (held.Is c) (ground_byte.Is d) e =
     let same = heat_shape (heat_fits s f.heat) e in
-    (ap (λ (x : Standing). x.state) same, ap (λ (x : Standing). ground_byte.Is x.ground) same, ap (λ (x : Standing). held.Is x.containment) same)
+    (ap (λ (x : Standing). x.state) same, ap (λ (x : Standing). ground_byte.Is x.topography) same, ap (λ (x : Standing). held.Is x.containment) same)
 held_shape f s (held.Is c) ground_byte.Unlisted e = absurd (not_refused_shape e)
 held_shape f s held.Filled g e = absurd (not_refused_shape e)
 
@@ -55,13 +55,13 @@ held_shape f s held.Filled g e = absurd (not_refused_shape e)
 pub record Stands (f : Fields) (standing : Standing) : Type 0 where
   pub kind : f.kind ≡ 1
   pub state : state_of f.state ≡ stateByte.Is standing.state
-  pub ground : ground_of f.ground ≡ ground_byte.Is standing.ground
+  pub topography : ground_of f.topography ≡ ground_byte.Is standing.topography
   pub held : held_of f.containment f.area f.wall ≡ held.Is standing.containment
 
 state_shape : (f : Fields) (x : StateByte) {standing : Standing} → f.kind ≡ 1 → state_of f.state ≡ x → shaped_state x f ≡ shape.Toxic standing → Stands f standing
 state_shape f (stateByte.Is s) k p e =
-    let t = held_shape f s (held_of f.containment f.area f.wall) (ground_of f.ground) e in
-    record { kind = k; state = p ∙ ap stateByte.Is t.0; ground = t.1; held = t.2 }
+    let t = held_shape f s (held_of f.containment f.area f.wall) (ground_of f.topography) e in
+    record { kind = k; state = p ∙ ap stateByte.Is t.0; topography = t.1; held = t.2 }
 state_shape f stateByte.Unlisted k p e = absurd (not_refused_shape e)
 
 blank_shape : (b : Bool) {standing : Standing} → shaped_blank b ≡ shape.Toxic standing → ⊥
@@ -85,12 +85,12 @@ heat_blank true a e = not_toxic_blank e
 heat_blank false a e = let z : ◌≡◌ {A = ℕ} 0 1 = cc in clash z
 
 held_blank : (f : Fields) (s : State) (h : Held) (g : GroundByte) → shaped_held h f s g ≡ shape.Flammable → ⊥
-held_blank f s (held.Is c) (ground_byte.Is d) e = heat_blank (heat_fits s f.heat) (record { state = s; ground = d; containment = c }) e
+held_blank f s (held.Is c) (ground_byte.Is d) e = heat_blank (heat_fits s f.heat) (record { state = s; topography = d; containment = c }) e
 held_blank f s (held.Is c) ground_byte.Unlisted e = let z : ◌≡◌ {A = ℕ} 0 1 = cc in clash z
 held_blank f s held.Filled g e = let z : ◌≡◌ {A = ℕ} 0 1 = cc in clash z
 
 state_blank : (f : Fields) (x : StateByte) → shaped_state x f ≡ shape.Flammable → ⊥
-state_blank f (stateByte.Is s) e = held_blank f s (held_of f.containment f.area f.wall) (ground_of f.ground) e
+state_blank f (stateByte.Is s) e = held_blank f s (held_of f.containment f.area f.wall) (ground_of f.topography) e
 state_blank f stateByte.Unlisted e = let z : ◌≡◌ {A = ℕ} 0 1 = cc in clash z
 
 pub flammable_shape : (f : Fields) → shape_of f ≡ shape.Flammable → f.kind ≡ 2

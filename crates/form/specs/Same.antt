@@ -80,7 +80,7 @@ held_bytes b area wall e = let r = held_told b area wall e in (λ i. (r i).0, λ
 -- a flammable card's must-be-zero fields
 pub record Blank (f : Fields) : Type 0 where
   pub state : f.state ≡ 0
-  pub ground : f.ground ≡ 0
+  pub topography : f.topography ≡ 0
   pub containment : f.containment ≡ 0
   pub area : f.area ≡ 0
   pub wall : f.wall ≡ 0
@@ -94,11 +94,11 @@ blank_fields : (f : Fields) → blank f ≡ true → Blank f
 unfolding blank
 blank_fields f e =
     let s = zero_and f.state e in
-    let g = zero_and f.ground s.1 in
+    let g = zero_and f.topography s.1 in
     let c = zero_and f.containment g.1 in
     let a = zero_and f.area c.1 in
     let w = zero_and f.wall a.1 in
-    record { state = s.0; ground = g.0; containment = c.0; area = a.0; wall = w.0; heat = eqb-true f.heat 0 w.1 }
+    record { state = s.0; topography = g.0; containment = c.0; area = a.0; wall = w.0; heat = eqb-true f.heat 0 w.1 }
 
 blank_true : (b : Bool) → shaped_blank b ≡ shape.Flammable → b ≡ true
 blank_true true e = refl

@@ -35,7 +35,7 @@ pub enum Held {
 #[derive(Clone, Copy)]
 pub struct Standing {
     pub state: State,
-    pub ground: Ground,
+    pub topography: Ground,
     pub containment: Containment,
 }
 
@@ -135,14 +135,14 @@ fn toxic_shape(f: Fields) -> Shape
     let Held::Is(containment) = second else {
         return Shape::Refused(Refusal::Form);
     };
-    let third = ground_of(f.ground);
-    let GroundByte::Is(ground) = third else {
+    let third = ground_of(f.topography);
+    let GroundByte::Is(topography) = third else {
         return Shape::Refused(Refusal::Form);
     };
     if heat_fits(state, f.heat) {
         return Shape::Toxic(Standing {
             state,
-            ground,
+            topography,
             containment,
         });
     }
@@ -155,7 +155,7 @@ fn is_blank(f: Fields) -> bool
 {
     let heat = f.wall as u64 + f.heat as u64;
     let around = f.containment as u64 + (f.area as u64 + heat);
-    f.state as u64 + (f.ground as u64 + around) == 0
+    f.state as u64 + (f.topography as u64 + around) == 0
 }
 
 // What kind of card the bytes make.

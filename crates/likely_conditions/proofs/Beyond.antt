@@ -105,21 +105,21 @@ range_is : (x : Reading) → is_beyond x ≡ is_unanswered (range_read x)
 range_is (reading.Distance d) = refl
 range_is reading.Beyond = refl
 
-module _ (ground : Ground) (rate endpoint : ℕ) where
-  table_unanswered : (t : Table) → in_order t ≡ true → endless t ≡ true → has_rows t ≡ true → beyond_table t ground rate endpoint ≡ is_unanswered (likely_in t ground rate endpoint)
+module _ (topography : Ground) (rate endpoint : ℕ) where
+  table_unanswered : (t : Table) → in_order t ≡ true → endless t ≡ true → has_rows t ≡ true → beyond_table t topography rate endpoint ≡ is_unanswered (likely_in t topography rate endpoint)
   unfolding beyond_table above_last last_in_use read_in likely_in in_order
   table_unanswered (ranges table) o e h =
-      table_beyond ground rate endpoint (ranges table) o e ∙ range_is (by_range table rate endpoint)
+      table_beyond topography rate endpoint (ranges table) o e ∙ range_is (by_range table rate endpoint)
   table_unanswered (grid rates endpoints rows) o e h =
       row_beyond rates (from_column (closest_column endpoint endpoints) rows) rate (both_true (climbs (thousandths rates)) (climbs endpoints) o).0 (ltb-true 0 (length rates) h)
   table_unanswered (lines table) o e h =
       let z = length-map table rate_of in
-      ap (λ n. both (ltb (last_of (thousandths (map rate_of table))) rate) (not (eqb (in_use (map (entry_of ground) table) (n - 1)) mile_limit))) (sym z)
-      ∙ row_beyond (map rate_of table) (map (entry_of ground) table) rate o (omega (arith, z, ltb-true 0 (length table) h))
+      ap (λ n. both (ltb (last_of (thousandths (map rate_of table))) rate) (not (eqb (in_use (map (entry_of topography) table) (n - 1)) mile_limit))) (sym z)
+      ∙ row_beyond (map rate_of table) (map (entry_of topography) table) rate o (omega (arith, z, ltb-true 0 (length table) h))
   table_unanswered unprinted o e h = refl
 
   -- 11 holds exactly where the table does not answer
-  pub reading_unanswered : (n : ℕ) → beyond_table (get_or likely_tables (n - 13) unprinted) ground rate endpoint ≡ is_unanswered (likely_reading n ground rate endpoint)
+  pub reading_unanswered : (n : ℕ) → beyond_table (get_or likely_tables (n - 13) unprinted) topography rate endpoint ≡ is_unanswered (likely_reading n topography rate endpoint)
   unfolding likely_reading
   reading_unanswered n =
       let t : Table = get_or likely_tables (n - 13) unprinted in

@@ -58,9 +58,9 @@ module _ (rate minutes : ℕ) where
   unfolding beyond_likely
   plan_verdict (planned.Planned s) card e =
       let table : ℕ = likely_table card minutes in
-      told_verdict (likely_reading table card.ground rate s.endpoint) table
-      ∙ (ap (λ t. pick t refusal.Beyond passed) (sym (reading_unanswered card.ground rate s.endpoint table))
-      ∙ ap (λ n. pick (beyond_table (get_or likely_tables (table - 13) unprinted) card.ground rate n) refusal.Beyond passed) e)
+      told_verdict (likely_reading table card.topography rate s.endpoint) table
+      ∙ (ap (λ t. pick t refusal.Beyond passed) (sym (reading_unanswered card.topography rate s.endpoint table))
+      ∙ ap (λ n. pick (beyond_table (get_or likely_tables (table - 13) unprinted) card.topography rate n) refusal.Beyond passed) e)
   plan_verdict planned.Mismatch card e = refl
 
 -- ---- 6

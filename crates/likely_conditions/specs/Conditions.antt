@@ -22,7 +22,7 @@ not_toxic_form card = either (not (toxic card)) (bad_toxic card)
 -- endpoint that the exhibits give the substance
 unfoldable pub beyond_likely : ToxicCard → ℕ → ℕ → Bool
 beyond_likely card rate minutes =
-    beyond_table (get_or likely_tables (likely_table card minutes - 13) unprinted) card.ground rate (endpoint_of card.entry)
+    beyond_table (get_or likely_tables (likely_table card minutes - 13) unprinted) card.topography rate (endpoint_of card.entry)
 
 -- 17 and 18, of what the reader supplies; 6 to 10 and 14 to 16, of the card, as ever; 11 of the alternative table, last
 unfoldable pub of_likely : List ℕ → ℕ → ℕ → List Condition

@@ -71,7 +71,7 @@ ten_printed Solution t = refl
 
 -- "Exhibits 4 and 5 choose among Tables 14 to 25": the definition's table is theirs, for every card and every duration
 pub by_exhibits : (card : ToxicCard) (minutes : ℕ)
-    → likely_table card minutes ≡ exhibits_table card.cas card.state (alternative_plume card.entry) card.ground minutes
+    → likely_table card minutes ≡ exhibits_table card.cas card.state (alternative_plume card.entry) card.topography minutes
 unfolding likely_table table_of exhibits_table
 by_exhibits card minutes = go (eqb card.cas 7664417) (eqb card.cas 7782505) (eqb card.cas 7446095)
   where
@@ -79,7 +79,7 @@ by_exhibits card minutes = go (eqb card.cas 7664417) (eqb card.cas 7782505) (eqb
     s = card.state
 
     g : Ground
-    g = card.ground
+    g = card.topography
 
     p : Plume
     p = plume_in s (alternative_plume card.entry)

@@ -50,10 +50,10 @@ ground_byte Urban = 2
 
 -- the table that a density, a topography and a duration have there; 0 where no line has them
 unfoldable pub generic_in : List GenericLine → Plume → Ground → ℕ → ℕ
-generic_in [] plume ground minutes = 0
-generic_in (generic p g m table ∷ rest) plume ground minutes =
-    elim (both (eqb (dense_of p) (dense_of plume)) (both (eqb (ground_byte g) (ground_byte ground)) (eqb m minutes)))
-    [ true ↦ table | false ↦ generic_in rest plume ground minutes ]
+generic_in [] plume topography minutes = 0
+generic_in (generic p g m table ∷ rest) plume topography minutes =
+    elim (both (eqb (dense_of p) (dense_of plume)) (both (eqb (ground_byte g) (ground_byte topography)) (eqb m minutes)))
+    [ true ↦ table | false ↦ generic_in rest plume topography minutes ]
 
 -- ---- Exhibit 5, "Chemical-Specific Reference Tables of Distances for Alternative Scenarios"
 
@@ -88,10 +88,10 @@ code_of sulfur_dioxide = 5
 
 -- The table that a substance has there in a topography; 0 where no line has it. "You may use these tables for releases of any duration."
 unfoldable pub specific_in : List SpecificLine → Substance → Ground → ℕ
-specific_in [] substance ground = 0
-specific_in (specific names p from upto grounds table ∷ rest) substance ground =
-    elim (both (among (code_of substance) (map code_of names)) (among (ground_byte ground) (map ground_byte grounds)))
-    [ true ↦ table | false ↦ specific_in rest substance ground ]
+specific_in [] substance topography = 0
+specific_in (specific names p from upto grounds table ∷ rest) substance topography =
+    elim (both (among (code_of substance) (map code_of names)) (among (ground_byte topography) (map ground_byte grounds)))
+    [ true ↦ table | false ↦ specific_in rest substance topography ]
 
 -- ---- the table of a card by the exhibits
 
@@ -122,16 +122,16 @@ duration_in state minutes = printed_minutes (either (is_solution state) (leb min
 -- "The generic reference tables should be used for all toxic substances other than ammonia, chlorine, and sulfur dioxide." By CAS number,
 -- state, the plume of the alternative case, ground and minutes.
 unfoldable pub exhibits_table : ℕ → State → Plume → Ground → ℕ → ℕ
-exhibits_table cas state plume ground minutes =
+exhibits_table cas state plume topography minutes =
     elim (eqb cas 7664417) [
-      | true ↦ specific_in exhibit5 (ammonia_in state) ground
+      | true ↦ specific_in exhibit5 (ammonia_in state) topography
       | false ↦
           elim (eqb cas 7782505) [
-            | true ↦ specific_in exhibit5 chlorine ground
+            | true ↦ specific_in exhibit5 chlorine topography
             | false ↦
                 elim (eqb cas 7446095) [
-                  | true ↦ specific_in exhibit5 sulfur_dioxide ground
-                  | false ↦ generic_in exhibit4 (plume_in state plume) ground (duration_in state minutes)
+                  | true ↦ specific_in exhibit5 sulfur_dioxide topography
+                  | false ↦ generic_in exhibit4 (plume_in state plume) topography (duration_in state minutes)
                 ]
           ]
     ]
@@ -196,13 +196,13 @@ entry_in cas state tenths = elim (is_solution state) [ true ↦ solution_of cas 
 
 -- the definition's table of a case's card; its pounds, its containment and a temperature choose none
 abbrev pub chosen : Case → ℕ
-chosen (asked cas state tenths plume ground minutes table) =
+chosen (asked cas state tenths plume topography minutes table) =
     likely_table
     (record {
       cas = cas;
       entry = entry_in cas state tenths;
       state = state;
-      ground = ground;
+      topography = topography;
       quantity = record { 0 = 1 };
       tenths = Concentration tenths;
       containment = Open;
@@ -211,10 +211,10 @@ chosen (asked cas state tenths plume ground minutes table) =
 
 -- the exhibits' table, and the number that the case states
 abbrev pub table_in : Case → ℕ
-table_in (asked cas state tenths plume ground minutes table) = exhibits_table cas state plume ground minutes
+table_in (asked cas state tenths plume topography minutes table) = exhibits_table cas state plume topography minutes
 
 abbrev pub stated : Case → ℕ
-stated (asked cas state tenths plume ground minutes table) = table
+stated (asked cas state tenths plume topography minutes table) = table
 
 -- every case: the definition's choice is that of Exhibits 4 and 5
 pub cases_by_exhibits : map chosen cases ≡ map table_in cases

@@ -49,10 +49,10 @@ rates_in unprinted = []
 
 -- the entries of the column that a ground and an endpoint read; in a table by endpoints, of each row the largest from that column on
 abbrev pub entries_in : Table → Ground → ℕ → List ℕ
-entries_in (ranges table) ground endpoint = []
-entries_in (grid rates endpoints rows) ground endpoint = from_column (closest_column endpoint endpoints) rows
-entries_in (lines table) ground endpoint = map (entry_of ground) table
-entries_in unprinted ground endpoint = []
+entries_in (ranges table) topography endpoint = []
+entries_in (grid rates endpoints rows) topography endpoint = from_column (closest_column endpoint endpoints) rows
+entries_in (lines table) topography endpoint = map (entry_of topography) table
+entries_in unprinted topography endpoint = []
 
 -- no distance is above 25 miles
 abbrev pub short : List ℕ → Bool
@@ -105,13 +105,13 @@ column_short column (row ∷ rest) e =
     rw (le-leb (largest (drop column (map distance row))) 2500 (largest_behind 2500 (map distance row) halves.0 column))
     (column_short column rest halves.1)
 
-entries_short : (t : Table) → short_table t ≡ true → (ground : Ground) (endpoint : ℕ) → short (entries_in t ground endpoint) ≡ true
+entries_short : (t : Table) → short_table t ≡ true → (topography : Ground) (endpoint : ℕ) → short (entries_in t topography endpoint) ≡ true
 unfolding short_table
-entries_short (ranges table) e ground endpoint = refl
-entries_short (grid rates endpoints rows) e ground endpoint = column_short (closest_column endpoint endpoints) rows e
+entries_short (ranges table) e topography endpoint = refl
+entries_short (grid rates endpoints rows) e topography endpoint = column_short (closest_column endpoint endpoints) rows e
 entries_short (lines table) e Rural endpoint = (both_true (short (map (entry_of Rural) table)) (short (map (entry_of Urban) table)) e).0
 entries_short (lines table) e Urban endpoint = (both_true (short (map (entry_of Rural) table)) (short (map (entry_of Urban) table)) e).1
-entries_short unprinted e ground endpoint = refl
+entries_short unprinted e topography endpoint = refl
 
 module _ (t : Table) (e : sound_table t ≡ true) where
   pub rates_climb : climbing t ≡ true
@@ -125,7 +125,7 @@ module _ (t : Table) (e : sound_table t ≡ true) where
   pub rates_exact : exact t ≡ true
   rates_exact = behind.0
 
-  pub entries_within : (ground : Ground) (endpoint : ℕ) → short (entries_in t ground endpoint) ≡ true
+  pub entries_within : (topography : Ground) (endpoint : ℕ) → short (entries_in t topography endpoint) ≡ true
   entries_within = entries_short t behind.1
 
 -- ---- a reading of any table
@@ -146,26 +146,26 @@ range_number true d h = go (eqb d mile_limit)
     go false = tt
 
 -- a table of rows
-rows_number : (t : Table) → sound_table t ≡ true → (ground : Ground) (rate endpoint : ℕ)
-    → CarriesIn (likely_by_row (rates_in t) (entries_in t ground endpoint) rate)
-rows_number t e ground rate endpoint =
-    number_by_row (rates_in t) (entries_in t ground endpoint) (rates_climb t e) (rates_exact t e) (entries_within t e ground endpoint) rate
+rows_number : (t : Table) → sound_table t ≡ true → (topography : Ground) (rate endpoint : ℕ)
+    → CarriesIn (likely_by_row (rates_in t) (entries_in t topography endpoint) rate)
+rows_number t e topography rate endpoint =
+    number_by_row (rates_in t) (entries_in t topography endpoint) (rates_climb t e) (rates_exact t e) (entries_within t e topography endpoint) rate
 
-table_number : (t : Table) → sound_table t ≡ true → (ground : Ground) (rate endpoint : ℕ) → CarriesIn (likely_in t ground rate endpoint)
+table_number : (t : Table) → sound_table t ≡ true → (topography : Ground) (rate endpoint : ℕ) → CarriesIn (likely_in t topography rate endpoint)
 unfolding likely_in by_range short_table
-table_number (ranges table) e ground rate endpoint =
+table_number (ranges table) e topography rate endpoint =
     let entries : List ℕ = map (λ range. distance (mark_of range)) table in
     let place : ℕ = holding rate endpoint table in
     range_number (past rate endpoint table) (in_use entries place) (in_use_within 2500 entries (behind (ranges table) e).1 place)
-table_number (grid rates endpoints rows) e ground rate endpoint = rows_number (grid rates endpoints rows) e ground rate endpoint
-table_number (lines table) e ground rate endpoint = rows_number (lines table) e ground rate endpoint
-table_number unprinted e ground rate endpoint = tt
+table_number (grid rates endpoints rows) e topography rate endpoint = rows_number (grid rates endpoints rows) e topography rate endpoint
+table_number (lines table) e topography rate endpoint = rows_number (lines table) e topography rate endpoint
+table_number unprinted e topography rate endpoint = tt
 
 -- every distance carried is a number between 0 and 2,500
-pub reading_number : (table : ℕ) (ground : Ground) (rate endpoint : ℕ) → CarriesIn (likely_reading table ground rate endpoint)
+pub reading_number : (table : ℕ) (topography : Ground) (rate endpoint : ℕ) → CarriesIn (likely_reading table topography rate endpoint)
 unfolding likely_reading
-reading_number table ground rate endpoint =
-    table_number (get_or likely_tables (table - 13) unprinted) (sound_table_lem (table - 13)) ground rate endpoint
+reading_number table topography rate endpoint =
+    table_number (get_or likely_tables (table - 13) unprinted) (sound_table_lem (table - 13)) topography rate endpoint
 
 -- ---- a card's answer
 
@@ -180,8 +180,8 @@ told_number reading.Beyond table h = tt
 
 planned_number : (p : Planned) (card : ToxicCard) (rate minutes : ℕ) → AnswerCarries (planned_likely p card rate minutes)
 planned_number (planned.Planned s) card rate minutes =
-    told_number (likely_reading (likely_table card minutes) card.ground rate s.endpoint) (likely_table card minutes)
-    (reading_number (likely_table card minutes) card.ground rate s.endpoint)
+    told_number (likely_reading (likely_table card minutes) card.topography rate s.endpoint) (likely_table card minutes)
+    (reading_number (likely_table card minutes) card.topography rate s.endpoint)
 planned_number planned.Mismatch card rate minutes = tt
 
 meant_number : (m : Meaning) (rate minutes : ℕ) → AnswerCarries (meant_likely m rate minutes)

@@ -30,14 +30,14 @@ row_rates table = rates_in (numbered table)
 -- the entries of the column that a ground and an endpoint read, "with the endpoint column still the closest": in Tables 22 to 25 as
 -- printed, in 18 to 21 of each row the largest at no lower endpoint, which document 01 puts in use
 unfoldable pub column_in : ℕ → Ground → ℕ → List ℕ
-column_in table ground endpoint = entries_in (numbered table) ground endpoint
+column_in table topography endpoint = entries_in (numbered table) topography endpoint
 
 -- the rate of a row in thousandths, and the entry in use there, by the row's place from 0
 abbrev pub rate_at : ℕ → ℕ → ℕ
 rate_at table k = 1000 * get_or (row_rates table) k 0
 
 abbrev pub entry_at : ℕ → Ground → ℕ → ℕ → ℕ
-entry_at table ground endpoint k = in_use (column_in table ground endpoint) k
+entry_at table topography endpoint k = in_use (column_in table topography endpoint) k
 
 -- ---- Tables 18 to 25 are those with rows
 
@@ -61,13 +61,13 @@ rows_of table low high =
     sym (ap has_rows (get_or-drop 5 likely_tables (table - 18) unprinted ∙ ap (λ n. get_or likely_tables n unprinted) place))
     ∙ each_below has_rows (drop 5 likely_tables) unprinted all_rows (table - 18) (omega arith)
 
-in_rows : (t : Table) → has_rows t ≡ true → (ground : Ground) (rate endpoint : ℕ)
-    → likely_in t ground rate endpoint ≡ likely_by_row (rates_in t) (entries_in t ground endpoint) rate
+in_rows : (t : Table) → has_rows t ≡ true → (topography : Ground) (rate endpoint : ℕ)
+    → likely_in t topography rate endpoint ≡ likely_by_row (rates_in t) (entries_in t topography endpoint) rate
 unfolding has_rows likely_in
-in_rows (ranges table) e ground rate endpoint = clash (cc)
-in_rows (grid rates endpoints rows) e ground rate endpoint = refl
-in_rows (lines table) e ground rate endpoint = refl
-in_rows unprinted e ground rate endpoint = clash (cc)
+in_rows (ranges table) e topography rate endpoint = clash (cc)
+in_rows (grid rates endpoints rows) e topography rate endpoint = refl
+in_rows (lines table) e topography rate endpoint = refl
+in_rows unprinted e topography rate endpoint = clash (cc)
 
 module _ (table : ℕ) (low : 17 < table) (high : table ≤ 25) where
   -- each has a first row
@@ -75,11 +75,11 @@ module _ (table : ℕ) (low : 17 < table) (high : table ≤ 25) where
   unfolding row_rates has_rows
   some_row = ltb-true 0 (length (rates_in (numbered table))) (rows_of table low high)
 
-  module _ (ground : Ground) (endpoint : ℕ) where
+  module _ (topography : Ground) (endpoint : ℕ) where
     -- "In Tables 18 to 25 we interpolate between rows": what a table answers is told by its rows alone
-    pub read_by_row : (rate : ℕ) → likely_reading table ground rate endpoint ≡ likely_by_row (row_rates table) (column_in table ground endpoint) rate
+    pub read_by_row : (rate : ℕ) → likely_reading table topography rate endpoint ≡ likely_by_row (row_rates table) (column_in table topography endpoint) rate
     unfolding likely_reading row_rates column_in
-    read_by_row rate = in_rows (numbered table) (rows_of table low high) ground rate endpoint
+    read_by_row rate = in_rows (numbered table) (rows_of table low high) topography rate endpoint
 
     -- ---- what the test of all tables says of this one
 
@@ -91,58 +91,58 @@ module _ (table : ℕ) (low : 17 < table) (high : table ≤ 25) where
     unfolding row_rates
     exact = rates_exact (numbered table) (sound_table_lem (table - 13))
 
-    within : every (λ d. leb d 2500) (column_in table ground endpoint) ≡ true
+    within : every (λ d. leb d 2500) (column_in table topography endpoint) ≡ true
     unfolding column_in
-    within = entries_within (numbered table) (sound_table_lem (table - 13)) ground endpoint
+    within = entries_within (numbered table) (sound_table_lem (table - 13)) topography endpoint
 
     -- ---- the sentences
 
     -- "At a printed rate the answer is the printed entry exactly, by 01's entries in use."
     pub at_printed : (k : ℕ) → k < length (row_rates table)
-        → likely_reading table ground (rate_at table k) endpoint ≡ Is (entry_read (entry_at table ground endpoint k))
+        → likely_reading table topography (rate_at table k) endpoint ≡ Is (entry_read (entry_at table topography endpoint k))
     at_printed k h =
-        read_by_row (rate_at table k) ∙ rows.at_printed (row_rates table) (column_in table ground endpoint) climb k h
+        read_by_row (rate_at table k) ∙ rows.at_printed (row_rates table) (column_in table topography endpoint) climb k h
 
     -- "Below the first row, the first entry is answered"
     pub below_first : (rate : ℕ) → rate ≤ rate_at table 0
-        → likely_reading table ground rate endpoint ≡ Is (entry_read (entry_at table ground endpoint 0))
+        → likely_reading table topography rate endpoint ≡ Is (entry_read (entry_at table topography endpoint 0))
     below_first rate l =
-        read_by_row rate ∙ rows.below_first (row_rates table) (column_in table ground endpoint) climb rate some_row l
+        read_by_row rate ∙ rows.below_first (row_rates table) (column_in table topography endpoint) climb rate some_row l
 
     -- "above the last, the rule of 11": a last entry in use of 25 miles is answered, any other is beyond the table
     pub above_last_lem : (rate : ℕ) → rate_at table (length (row_rates table) - 1) < rate
-        → likely_reading table ground rate endpoint ≡ above_last (entry_at table ground endpoint (length (row_rates table) - 1))
+        → likely_reading table topography rate endpoint ≡ above_last (entry_at table topography endpoint (length (row_rates table) - 1))
     above_last_lem rate l =
-        read_by_row rate ∙ rows.above_last_lem (row_rates table) (column_in table ground endpoint) climb rate some_row l
+        read_by_row rate ∙ rows.above_last_lem (row_rates table) (column_in table topography endpoint) climb rate some_row l
 
     -- strictly between two rows
     module _ (k : ℕ) (h : suc k < length (row_rates table)) where
       -- "we interpolate between rows"
       pub between_rows_lem : (rate : ℕ) → rate_at table k < rate → rate < rate_at table (suc k)
-          → likely_reading table ground rate endpoint
-          ≡ Is (between_rows (rate_at table k) (entry_at table ground endpoint k) (rate_at table (suc k)) (entry_at table ground endpoint (suc k)) rate)
+          → likely_reading table topography rate endpoint
+          ≡ Is (between_rows (rate_at table k) (entry_at table topography endpoint k) (rate_at table (suc k)) (entry_at table topography endpoint (suc k)) rate)
       between_rows_lem rate l u =
-          read_by_row rate ∙ rows.between_rows_lem (row_rates table) (column_in table ground endpoint) climb k rate h l u
+          read_by_row rate ∙ rows.between_rows_lem (row_rates table) (column_in table topography endpoint) climb k rate h l u
 
       -- "An entry in use of 25 miles is the limit, and so is the answer at any rate between it and the entry below."
       pub limit_at : (rate : ℕ) → rate_at table k < rate → rate < rate_at table (suc k)
-          → entry_at table ground endpoint (suc k) ≡ mile_limit → likely_reading table ground rate endpoint ≡ Is (Limit (float_of mile_limit))
+          → entry_at table topography endpoint (suc k) ≡ mile_limit → likely_reading table topography rate endpoint ≡ Is (Limit (float_of mile_limit))
       limit_at rate l u e =
-          read_by_row rate ∙ rows.limit_at (row_rates table) (column_in table ground endpoint) climb k rate h l u e
+          read_by_row rate ∙ rows.limit_at (row_rates table) (column_in table topography endpoint) climb k rate h l u e
 
       -- an interpolated distance lies between the two entries
       pub interpolated_between : (rate : ℕ) (x : Float) → rate_at table k < rate → rate < rate_at table (suc k)
-          → likely_reading table ground rate endpoint ≡ Is (Interpolated x)
-          → T (le (float_of (entry_at table ground endpoint k)) x) × T (le x (float_of (entry_at table ground endpoint (suc k))))
+          → likely_reading table topography rate endpoint ≡ Is (Interpolated x)
+          → T (le (float_of (entry_at table topography endpoint k)) x) × T (le x (float_of (entry_at table topography endpoint (suc k))))
       interpolated_between rate x l u e =
-          rows.interpolated_between (row_rates table) (column_in table ground endpoint) climb exact within k h rate x l u
+          rows.interpolated_between (row_rates table) (column_in table topography endpoint) climb exact within k h rate x l u
           (sym (read_by_row rate) ∙ e)
 
       -- within one pair of rows a larger rate never gives less
       pub larger_never_less : (rate more : ℕ) (x y : Float) → rate_at table k < rate → rate ≤ more
-          → more < rate_at table (suc k) → likely_reading table ground rate endpoint ≡ Is (Interpolated x)
-          → likely_reading table ground more endpoint ≡ Is (Interpolated y) → T (le x y)
+          → more < rate_at table (suc k) → likely_reading table topography rate endpoint ≡ Is (Interpolated x)
+          → likely_reading table topography more endpoint ≡ Is (Interpolated y) → T (le x y)
       larger_never_less rate more x y l m u e f =
-          rows.larger_never_less (row_rates table) (column_in table ground endpoint) climb exact within k h rate more x y l m u
+          rows.larger_never_less (row_rates table) (column_in table topography endpoint) climb exact within k h rate more x y l m u
           (sym (read_by_row rate) ∙ e)
           (sym (read_by_row more) ∙ f)

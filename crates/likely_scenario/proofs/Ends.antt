@@ -52,10 +52,10 @@ pub within : (n cas : ℕ) (s : State) (p : Plume) (g : Ground) (ten : Bool) →
 within n cas s p g ten e = rw e (table_within cas s p g ten)
 
 pub table_is : (card : ToxicCard) (minutes n : ℕ) (p : Plume) → p ≡ alternative_plume card.entry
-    → n ≡ table_of card.cas card.state p card.ground (leb minutes 10) → 13 + n ≡ likely_table card minutes
+    → n ≡ table_of card.cas card.state p card.topography (leb minutes 10) → 13 + n ≡ likely_table card minutes
 unfolding likely_table
 table_is card minutes n p e q =
-    ap (λ m. 13 + m) (q ∙ ap (λ x. table_of card.cas card.state x card.ground (leb minutes 10)) e)
+    ap (λ m. 13 + m) (q ∙ ap (λ x. table_of card.cas card.state x card.topography (leb minutes 10)) e)
 
 -- a reading
 pub told_is : (found : LikelyReading) (table : ℕ) (d : Likely) → found ≡ reading.Is d → answer.Is (record { table = table; distance = d }) ≡ told found table
@@ -70,11 +70,11 @@ module _ (card : ToxicCard) (rate minutes : ℕ) (p : Planned) (e : p ≡ plan_o
   planned_none q = sym (ap (λ x. planned_likely x card rate minutes) (sym e ∙ q))
 
   pub planned_some : (s : Scenario) (table : ℕ) (found : LikelyReading) (r : LikelyAnswer) → p ≡ planned.Planned s → table ≡ likely_table card minutes
-      → found ≡ likely_reading table card.ground rate s.endpoint → r ≡ told found table → r ≡ planned_likely (plan_of card) card rate minutes
+      → found ≡ likely_reading table card.topography rate s.endpoint → r ≡ told found table → r ≡ planned_likely (plan_of card) card rate minutes
   planned_some s table found r q t f h =
       h
       ∙ ap (λ x. told x table) f
-      ∙ ap (λ n. told (likely_reading n card.ground rate s.endpoint) n) t
+      ∙ ap (λ n. told (likely_reading n card.topography rate s.endpoint) n) t
       ∙ sym (ap (λ x. planned_likely x card rate minutes) (sym e ∙ q))
 
 -- a card that has been read

@@ -34,7 +34,7 @@ bad_rate rate = either (eqb rate 0) (ltb 1_000_000_000 rate)
 -- ground and duration have for a worst case.
 unfoldable pub likely_table : ToxicCard → ℕ → ℕ
 likely_table card minutes =
-    13 + table_of card.cas card.state (alternative_plume card.entry) card.ground (leb minutes 10)
+    13 + table_of card.cas card.state (alternative_plume card.entry) card.topography (leb minutes 10)
 
 -- "above the last, the rule of 11". The answer has the number of its table beside the distance.
 abbrev pub told : LikelyReading → ℕ → LikelyAnswer
@@ -45,7 +45,7 @@ told reading.Beyond table = answer.Refused refusal.Beyond
 -- nothing, and the supplied one is taken as it is.
 abbrev pub planned_likely : Planned → ToxicCard → ℕ → ℕ → LikelyAnswer
 planned_likely (planned.Planned s) card rate minutes =
-    told (likely_reading (likely_table card minutes) card.ground rate s.endpoint) (likely_table card minutes)
+    told (likely_reading (likely_table card minutes) card.topography rate s.endpoint) (likely_table card minutes)
 planned_likely planned.Mismatch card rate minutes = answer.Refused refusal.Mismatch
 
 -- 7, 8, 9, 14, 15 or 16, "checked as ever"

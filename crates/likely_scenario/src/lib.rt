@@ -60,9 +60,9 @@ fn likely_table(card: ToxicCard, minutes: u32) -> u8
 {
     let entry = card.entry;
     let state = card.state;
-    let ground = card.ground;
+    let topography = card.topography;
     let plume = alternative_plume(entry);
-    ABOVE_WORST_CASE + which_table::table(card.cas, state, plume, ground, minutes <= 10)
+    ABOVE_WORST_CASE + which_table::table(card.cas, state, plume, topography, minutes <= 10)
 }
 
 // What a reading tells, with its table.
@@ -84,9 +84,9 @@ fn planned_likely(card: ToxicCard, rate: PoundsPerMinute, minutes: u32) -> Likel
     let Planned::Planned(worst) = plan else {
         return LikelyAnswer::Refused(Refusal::Mismatch);
     };
-    let ground = card.ground;
+    let topography = card.topography;
     let table = likely_table(card, minutes);
-    let found = likely_tables::read(table, ground, rate, worst.endpoint);
+    let found = likely_tables::read(table, topography, rate, worst.endpoint);
     tell(found, table)
 }
 

@@ -28,13 +28,13 @@ use Rattle.likely_tables.specs.LikelyTables.{likely_tables, range_read, likely_i
 -- Tables 22 to 25: the rows' rates, the entries in use of both columns
 pub lines_mean : (table : List Line) (points rural urban : List ℕ) → points ≡ thousandths (map rate_of table)
     → rural ≡ running 0 (map (entry_of Rural) table) → urban ≡ running 0 (map (entry_of Urban) table) → 0 < length table
-    → (ground : Ground) (rate endpoint : ℕ)
-    → likely_at points (λ i. get_or (column_of ground rural urban) i 0) rate ≡ likely_in (lines table) ground rate endpoint
+    → (topography : Ground) (rate endpoint : ℕ)
+    → likely_at points (λ i. get_or (column_of topography rural urban) i 0) rate ≡ likely_in (lines table) topography rate endpoint
 unfolding likely_in
-lines_mean table points rural urban p r u some ground rate endpoint =
-    carried_means (map rate_of table) (map (entry_of ground) table) points (column_of ground rural urban) p (omega (arith, some, length-map table rate_of))
-    (column ground)
-    (length-map table (entry_of ground) ∙ sym (length-map table rate_of))
+lines_mean table points rural urban p r u some topography rate endpoint =
+    carried_means (map rate_of table) (map (entry_of topography) table) points (column_of topography rural urban) p (omega (arith, some, length-map table rate_of))
+    (column topography)
+    (length-map table (entry_of topography) ∙ sym (length-map table rate_of))
     rate
   where
     column : (g : Ground) → column_of g rural urban ≡ running 0 (map (entry_of g) table)
@@ -42,31 +42,31 @@ lines_mean table points rural urban p r u some ground rate endpoint =
     column Urban = u
 
 -- Table 18 + k is read by the rows and columns of Table 18
-dense_table : (k : ℕ) → k < 4 → (ground : Ground) (rate endpoint : ℕ)
-    → likely_by_row rates18 (from_column (closest_column endpoint endpoints18) (get_or dense_tables k [])) rate ≡ likely_reading (18 + k) ground rate endpoint
+dense_table : (k : ℕ) → k < 4 → (topography : Ground) (rate endpoint : ℕ)
+    → likely_by_row rates18 (from_column (closest_column endpoint endpoints18) (get_or dense_tables k [])) rate ≡ likely_reading (18 + k) topography rate endpoint
 unfolding likely_reading likely_in likely_tables dense_tables
-dense_table zero h ground rate endpoint = refl
-dense_table (suc zero) h ground rate endpoint = refl
-dense_table (suc (suc zero)) h ground rate endpoint = refl
-dense_table (suc (suc (suc zero))) h ground rate endpoint = refl
-dense_table (suc (suc (suc (suc k)))) h ground rate endpoint =
+dense_table zero h topography rate endpoint = refl
+dense_table (suc zero) h topography rate endpoint = refl
+dense_table (suc (suc zero)) h topography rate endpoint = refl
+dense_table (suc (suc (suc zero))) h topography rate endpoint = refl
+dense_table (suc (suc (suc (suc k)))) h topography rate endpoint =
     absurd (not-suc-le-zero (le_of_suc-le-suc (le_of_suc-le-suc (le_of_suc-le-suc (le_of_suc-le-suc h)))))
 
-pub dense_reading : (table : ℕ) → 17 < table → table ≤ 21 → (ground : Ground) (rate endpoint : ℕ)
-    → likely_by_row rates18 (from_column (closest_column endpoint endpoints18) (get_or dense_tables (table - 18) [])) rate ≡ likely_reading table ground rate endpoint
-dense_reading table low high ground rate endpoint =
+pub dense_reading : (table : ℕ) → 17 < table → table ≤ 21 → (topography : Ground) (rate endpoint : ℕ)
+    → likely_by_row rates18 (from_column (closest_column endpoint endpoints18) (get_or dense_tables (table - 18) [])) rate ≡ likely_reading table topography rate endpoint
+dense_reading table low high topography rate endpoint =
     let k : ℕ = table - 18 in
     let t : 18 + k ≡ table = omega arith in
-    dense_table k (omega arith) ground rate endpoint ∙ ap (λ n. likely_reading n ground rate endpoint) t
+    dense_table k (omega arith) topography rate endpoint ∙ ap (λ n. likely_reading n topography rate endpoint) t
 
 -- the column of each ground
-module _ (rates rural urban : List ℕ) (ground : Ground) (rate : ℕ) (r : LikelyReading) where
-  pub by_rural : ground ≡ Rural → r ≡ likely_at rates (λ i. get_or rural i 0) rate
-      → r ≡ likely_at rates (λ i. get_or (column_of ground rural urban) i 0) rate
+module _ (rates rural urban : List ℕ) (topography : Ground) (rate : ℕ) (r : LikelyReading) where
+  pub by_rural : topography ≡ Rural → r ≡ likely_at rates (λ i. get_or rural i 0) rate
+      → r ≡ likely_at rates (λ i. get_or (column_of topography rural urban) i 0) rate
   by_rural e q = rw e q
 
-  pub by_urban : ground ≡ Urban → r ≡ likely_at rates (λ i. get_or urban i 0) rate
-      → r ≡ likely_at rates (λ i. get_or (column_of ground rural urban) i 0) rate
+  pub by_urban : topography ≡ Urban → r ≡ likely_at rates (λ i. get_or urban i 0) rate
+      → r ≡ likely_at rates (λ i. get_or (column_of topography rural urban) i 0) rate
   by_urban e q = rw e q
 
 -- a range's entry, and a range once it is read
@@ -77,13 +77,13 @@ pub range_is : (r : LikelyReading) (found printed : Reading) → r ≡ range_rea
 range_is r found printed e q = e ∙ ap range_read q
 
 -- below 14 and above 25 there is nothing to read
-pub none_below : (table : ℕ) (ground : Ground) (rate endpoint : ℕ) → table ≤ 13 → Beyond ≡ likely_reading table ground rate endpoint
+pub none_below : (table : ℕ) (topography : Ground) (rate endpoint : ℕ) → table ≤ 13 → Beyond ≡ likely_reading table topography rate endpoint
 unfolding likely_reading likely_in likely_tables
-none_below table ground rate endpoint h =
+none_below table topography rate endpoint h =
     let z : table - 13 ≡ 0 = omega arith in
-    ap (λ n. likely_in (get_or likely_tables n unprinted) ground rate endpoint) (sym z)
+    ap (λ n. likely_in (get_or likely_tables n unprinted) topography rate endpoint) (sym z)
 
-pub none_above : (table : ℕ) (ground : Ground) (rate endpoint : ℕ) → 25 < table → Beyond ≡ likely_reading table ground rate endpoint
+pub none_above : (table : ℕ) (topography : Ground) (rate endpoint : ℕ) → 25 < table → Beyond ≡ likely_reading table topography rate endpoint
 unfolding likely_reading likely_in likely_tables
-none_above table ground rate endpoint h =
-    ap (λ t. likely_in t ground rate endpoint) (sym (get_or-eq_default likely_tables unprinted {n = table - 13} (omega arith)))
+none_above table topography rate endpoint h =
+    ap (λ t. likely_in t topography rate endpoint) (sym (get_or-eq_default likely_tables unprinted {n = table - 13} (omega arith)))

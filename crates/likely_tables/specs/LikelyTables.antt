@@ -41,12 +41,12 @@ range_read reading.Beyond = Beyond
 -- What a table answers at a rate in thousandths of a pound per minute and an endpoint in hundred-thousandths of mg/L. "Tables 14 to 17
 -- read ranges as before"; "In Tables 18 to 25 we interpolate between rows, with the endpoint column still the closest."
 unfoldable pub likely_in : Table → Ground → ℕ → ℕ → LikelyReading
-likely_in (ranges table) ground rate endpoint = range_read (by_range table rate endpoint)
-likely_in (grid rates endpoints rows) ground rate endpoint =
+likely_in (ranges table) topography rate endpoint = range_read (by_range table rate endpoint)
+likely_in (grid rates endpoints rows) topography rate endpoint =
     likely_by_row rates (from_column (closest_column endpoint endpoints) rows) rate
-likely_in (lines table) ground rate endpoint = likely_by_row (map rate_of table) (map (entry_of ground) table) rate
-likely_in unprinted ground rate endpoint = Beyond
+likely_in (lines table) topography rate endpoint = likely_by_row (map rate_of table) (map (entry_of topography) table) rate
+likely_in unprinted topography rate endpoint = Beyond
 
 -- what the table of a number answers
 unfoldable pub likely_reading : ℕ → Ground → ℕ → ℕ → LikelyReading
-likely_reading table ground rate endpoint = likely_in (get_or likely_tables (table - 13) unprinted) ground rate endpoint
+likely_reading table topography rate endpoint = likely_in (get_or likely_tables (table - 13) unprinted) topography rate endpoint

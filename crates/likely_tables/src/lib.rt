@@ -33,7 +33,7 @@ fn range_read(reading: Reading) -> LikelyReading
 // Tables 14 to 17, each for one ground, whichever the card's is; no table below has a likely reading.
 fn neutral(table: u8, rate: u64, endpoint: u32) -> LikelyReading
     requires { table ≤ 17 }
-    ensures { (surroundings : Ground) → result ≡ likely_reading table surroundings rate endpoint }
+    ensures { (topography : Ground) → result ≡ likely_reading table topography rate endpoint }
 {
     match table {
         14 => range_read(likely_neutral::table_14(rate, endpoint)),
@@ -49,44 +49,44 @@ fn by_row(
     rates: &[u64],
     rural: &[u16],
     urban: &[u16],
-    surroundings: Ground,
+    topography: Ground,
     rate: u64,
 ) -> LikelyReading
     requires { (0 < length rates.now) × ((length rural.now ≡ length rates.now) × (length urban.now ≡ length rates.now)) }
-    ensures { result ≡ likely_at rates.now (λ i. get_or (column_of surroundings rural.now urban.now) i 0) rate }
+    ensures { result ≡ likely_at rates.now (λ i. get_or (column_of topography rural.now urban.now) i 0) rate }
 {
-    match surroundings {
+    match topography {
         Ground::Rural => interpolation::read(rates, rural, rate),
         Ground::Urban => interpolation::read(rates, urban, rate),
     }
 }
 
 // Tables 22 and 23, for ammonia, at whichever endpoint.
-fn ammonia(table: u8, ground: Ground, rate: u64) -> LikelyReading
+fn ammonia(table: u8, topography: Ground, rate: u64) -> LikelyReading
     requires { (21 < table) × (table ≤ 23) }
-    ensures { (endpoint : ℕ) → result ≡ likely_reading table ground rate endpoint }
+    ensures { (endpoint : ℕ) → result ≡ likely_reading table topography rate endpoint }
 {
     if table == 22 {
-        return by_row(&RATE_22, &RURAL_22, &URBAN_22, ground, rate);
+        return by_row(&RATE_22, &RURAL_22, &URBAN_22, topography, rate);
     }
-    by_row(&RATE_23, &RURAL_23, &URBAN_23, ground, rate)
+    by_row(&RATE_23, &RURAL_23, &URBAN_23, topography, rate)
 }
 
 // Tables 24 and 25, for chlorine and sulfur dioxide, at whichever endpoint; no table above has a likely reading.
-fn chlorine_sulfur(table: u8, ground: Ground, rate: u64) -> LikelyReading
+fn chlorine_sulfur(table: u8, topography: Ground, rate: u64) -> LikelyReading
     requires { 23 < table }
-    ensures { (endpoint : ℕ) → result ≡ likely_reading table ground rate endpoint }
+    ensures { (endpoint : ℕ) → result ≡ likely_reading table topography rate endpoint }
 {
     match table {
-        24 => by_row(&RATE_24, &RURAL_24, &URBAN_24, ground, rate),
-        25 => by_row(&RATE_25, &RURAL_25, &URBAN_25, ground, rate),
+        24 => by_row(&RATE_24, &RURAL_24, &URBAN_24, topography, rate),
+        25 => by_row(&RATE_25, &RURAL_25, &URBAN_25, topography, rate),
         _ => LikelyReading::Beyond,
     }
 }
 
 // What a table answers a likely scenario at a rate and an endpoint in hundred-thousandths of mg/L, on the card's ground.
-pub fn read(table: u8, ground: Ground, rate: PoundsPerMinute, endpoint: u32) -> LikelyReading
-    ensures { result ≡ likely_reading table ground rate.0 endpoint }
+pub fn read(table: u8, topography: Ground, rate: PoundsPerMinute, endpoint: u32) -> LikelyReading
+    ensures { result ≡ likely_reading table topography rate.0 endpoint }
 {
     let thousandths = rate.0;
     if table <= 17 {
@@ -96,7 +96,7 @@ pub fn read(table: u8, ground: Ground, rate: PoundsPerMinute, endpoint: u32) -> 
         return likely_dense::read(table, thousandths, endpoint);
     }
     if table <= 23 {
-        return ammonia(table, ground, thousandths);
+        return ammonia(table, topography, thousandths);
     }
-    chlorine_sulfur(table, ground, thousandths)
+    chlorine_sulfur(table, topography, thousandths)
 }

@@ -88,12 +88,12 @@ module _ (f : Fields) where
   toxic_refused x standing b d r e g q h k m n =
       ap meaning.Refused (n ∙ ap bounds_refusal m) ∙ (ap (λ y. toxic_bounded y f x standing) (sym m) ∙ listed_meaning x standing b d e g q h)
 
-  pub toxic_read : (x : Toxic) (standing : Standing) (b : Bool) (d : Bounds) (t : Tenths) (n : Pounds) → x ≡ substance_of f → b ≡ is_listed x → not b ≡ false → d ≡ bounds_of x f → d ≡ bounds.Within t → n.0 ≡ f.pounds → meaning.Toxic (record { cas = f.cas; entry = x; state = standing.state; ground = standing.ground; quantity = n; tenths = t; containment = standing.containment }) ≡ toxic_meaning (substance_of f) f standing
+  pub toxic_read : (x : Toxic) (standing : Standing) (b : Bool) (d : Bounds) (t : Tenths) (n : Pounds) → x ≡ substance_of f → b ≡ is_listed x → not b ≡ false → d ≡ bounds_of x f → d ≡ bounds.Within t → n.0 ≡ f.pounds → meaning.Toxic (record { cas = f.cas; entry = x; state = standing.state; topography = standing.topography; quantity = n; tenths = t; containment = standing.containment }) ≡ toxic_meaning (substance_of f) f standing
   toxic_read x standing b d t n e g q h m k =
-      (λ i. meaning.Toxic (record { cas = f.cas; entry = x; state = standing.state; ground = standing.ground; quantity = record { 0 = k i }; tenths = t; containment = standing.containment }))
+      (λ i. meaning.Toxic (record { cas = f.cas; entry = x; state = standing.state; topography = standing.topography; quantity = record { 0 = k i }; tenths = t; containment = standing.containment }))
       ∙ (ap (λ y. toxic_bounded y f x standing) (sym m) ∙ listed_meaning x standing b d e g q h)
 
-  pub toxic_limited : (x : Toxic) (standing : Standing) (d : Bounds) (t : Tenths) (n : Pounds) → x ≡ substance_of f → BoundsLimits f d → d ≡ bounds.Within t → n.0 ≡ f.pounds → Limits (record { cas = f.cas; entry = x; state = standing.state; ground = standing.ground; quantity = n; tenths = t; containment = standing.containment })
+  pub toxic_limited : (x : Toxic) (standing : Standing) (d : Bounds) (t : Tenths) (n : Pounds) → x ≡ substance_of f → BoundsLimits f d → d ≡ bounds.Within t → n.0 ≡ f.pounds → Limits (record { cas = f.cas; entry = x; state = standing.state; topography = standing.topography; quantity = n; tenths = t; containment = standing.containment })
   toxic_limited x standing d t n e l m k =
       let p : f.pounds ≤ 10_000_000 = subst (BoundsLimits f) m l in
       record { quantity = rw k p; entry = subst Within (sym e) (entry_within f) }

@@ -33,7 +33,7 @@ pub record ToxicFrom (f : Fields) (card : ToxicCard) : Type 0 where
   pub cas : f.cas ≡ card.cas
   pub entry : substance_of f ≡ card.entry
   pub state : state_of f.state ≡ stateByte.Is card.state
-  pub ground : ground_of f.ground ≡ ground_byte.Is card.ground
+  pub topography : ground_of f.topography ≡ ground_byte.Is card.topography
   pub held : held_of f.containment f.area f.wall ≡ held.Is card.containment
   pub quantity : f.pounds ≡ card.quantity.0
   pub tenths : tenths_of f ≡ card.tenths
@@ -82,20 +82,20 @@ record Told (f : Fields) (x : Toxic) (standing : Standing) (card : ToxicCard) : 
   cas : f.cas ≡ card.cas
   entry : x ≡ card.entry
   state : standing.state ≡ card.state
-  ground : standing.ground ≡ card.ground
+  topography : standing.topography ≡ card.topography
   containment : standing.containment ≡ card.containment
   quantity : f.pounds ≡ card.quantity.0
   tenths : tenths_of f ≡ card.tenths
 
 told : (b : Bounds) (f : Fields) (entry : Toxic) (standing : Standing) {card : ToxicCard} → bounds_of entry f ≡ b → toxic_bounded b f entry standing ≡ meaning.Toxic card → Told f entry standing card
 told (bounds.Within t) f entry standing {card} h e =
-    let made : ToxicCard = record { cas = f.cas; entry = entry; state = standing.state; ground = standing.ground; quantity = record { 0 = f.pounds }; tenths = t; containment = standing.containment } in
+    let made : ToxicCard = record { cas = f.cas; entry = entry; state = standing.state; topography = standing.topography; quantity = record { 0 = f.pounds }; tenths = t; containment = standing.containment } in
     let same : made ≡ card = toxic_is e in
     record {
       cas = ap (λ (c : ToxicCard). c.cas) same;
       entry = ap (λ (c : ToxicCard). c.entry) same;
       state = ap (λ (c : ToxicCard). c.state) same;
-      ground = ap (λ (c : ToxicCard). c.ground) same;
+      topography = ap (λ (c : ToxicCard). c.topography) same;
       containment = ap (λ (c : ToxicCard). c.containment) same;
       quantity = ap (λ (c : ToxicCard). c.quantity.0) same;
       tenths = bounds_tenths entry f h ∙ ap (λ (c : ToxicCard). c.tenths) same;
@@ -128,7 +128,7 @@ toxic_shaped f (shape.Toxic standing) p e =
       cas = t.cas;
       entry = t.entry;
       state = g.state ∙ ap stateByte.Is t.state;
-      ground = g.ground ∙ ap ground_byte.Is t.ground;
+      topography = g.topography ∙ ap ground_byte.Is t.topography;
       held = g.held ∙ ap held.Is t.containment;
       quantity = t.quantity;
       tenths = t.tenths;

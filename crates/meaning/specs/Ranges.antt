@@ -44,7 +44,7 @@ TenthsRanged f = (f.heat ≤ 3_000) ⊎ ((65_036 ≤ f.heat) × (f.state ≡ 5 �
 pub record Ranged (f : Fields) : Type 0 where
   pub kind : f.kind ≤ 2
   pub state : f.state ≤ 5
-  pub ground : f.ground ≤ 2
+  pub topography : f.topography ≤ 2
   pub containment : f.containment ≤ 3
   pub cas : f.cas < 100_000_000
   pub pounds : f.pounds ≤ 10_000_000
@@ -141,7 +141,7 @@ shaped_ranged f (shape.Toxic standing) p n =
     record {
       kind = omega (arith, bytes.kind);
       state = omega (arith, state_byte f.state bytes.state, state_within standing.state);
-      ground = omega (arith, ground_byte_lem f.ground bytes.ground, ground_within standing.ground);
+      topography = omega (arith, ground_byte_lem f.topography bytes.topography, ground_within standing.topography);
       containment = place.0;
       cas = cas_within f in_List;
       pounds = pounds_within f.pounds numbers.0;
@@ -155,7 +155,7 @@ shaped_ranged f shape.Flammable p n =
     record {
       kind = omega (arith, flammable_shape f p);
       state = omega arith;
-      ground = omega arith;
+      topography = omega arith;
       containment = omega arith;
       cas = combustion.listed_below f.cas (not-false (is_flammable f.cas) known.0);
       pounds = pounds_within f.pounds (passed (bad_pounds f.pounds) _ _ known.1).0;

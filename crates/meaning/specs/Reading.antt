@@ -38,7 +38,7 @@ toxic_bounded (bounds.Within t) f entry standing =
       cas = f.cas;
       entry = entry;
       state = standing.state;
-      ground = standing.ground;
+      topography = standing.topography;
       quantity = record { 0 = f.pounds };
       tenths = t;
       containment = standing.containment;

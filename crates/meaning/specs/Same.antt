@@ -48,12 +48,12 @@ tenths_bytes : (f : Fields) → f.heat < 2 ^ 16 → f.heat ≡ tenths_in (tenths
 tenths_bytes f h = by_state f (λ x t. f.heat ≡ tenths_in t) (λ e. refl) (λ n. heat_bytes f.heat h)
 
 -- the fields one by one in their order, and that a card is its fields: what `cc` below is told of records
-abbrev made : (kind state ground containment cas pounds area wall heat number : ℕ) → Fields
-made kind state ground containment cas pounds area wall heat number =
+abbrev made : (kind state topography containment cas pounds area wall heat number : ℕ) → Fields
+made kind state topography containment cas pounds area wall heat number =
     record {
       kind = kind;
       state = state;
-      ground = ground;
+      topography = topography;
       containment = containment;
       cas = cas;
       pounds = pounds;
@@ -63,14 +63,14 @@ made kind state ground containment cas pounds area wall heat number =
       number = number;
     }
 
-made_of : (f : Fields) → f ≡ made f.kind f.state f.ground f.containment f.cas f.pounds f.area f.wall f.heat f.number
+made_of : (f : Fields) → f ≡ made f.kind f.state f.topography f.containment f.cas f.pounds f.area f.wall f.heat f.number
 made_of f = refl
 
 -- the fields that a toxic and a flammable card with this number are read from
 unfoldable pub toxic_fields : ToxicCard → ℕ → Fields
 toxic_fields card number =
     let h = held_in (held.Is card.containment) in
-    made 1 (state_in (stateByte.Is card.state)) (ground_in (ground_byte.Is card.ground)) h.0
+    made 1 (state_in (stateByte.Is card.state)) (ground_in (ground_byte.Is card.topography)) h.0
     card.cas card.quantity.0 h.1 h.2 (tenths_in card.tenths) number
 
 unfoldable pub flammable_fields : FlammableCard → ℕ → Fields
@@ -81,7 +81,7 @@ unfolding toxic_fields
 toxic_fields_lem f last h e =
     let t = toxic_from f last e in
     let c = held_bytes f.containment f.area f.wall t.held in
-    cc (made_of f, state_byte f.state t.state, ground_byte_lem f.ground t.ground, tenths_bytes f h)
+    cc (made_of f, state_byte f.state t.state, ground_byte_lem f.topography t.topography, tenths_bytes f h)
 
 -- a flammable meaning comes of a flammable shape
 flammable_shaped : (f : Fields) (last : ℕ) {card : FlammableCard} → meaning_of f last ≡ meaning.Flammable card → shape_of f ≡ shape.Flammable

@@ -69,13 +69,13 @@ pub fn toxic_meaning(f: Fields, standing: Standing) -> Meaning
         return Meaning::Refused(bounds::bounds_refusal(found));
     };
     let state = standing.state;
-    let ground = standing.ground;
+    let topography = standing.topography;
     let containment = standing.containment;
     Meaning::Toxic(ToxicCard {
         cas: f.cas,
         entry,
         state,
-        ground,
+        topography,
         quantity: release::pounds(f.pounds),
         tenths,
         containment,

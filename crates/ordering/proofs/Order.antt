@@ -51,7 +51,7 @@ record ToxicAnswer (card : ToxicCard) (a : Answer) : Type 0 where
   class : a.class ≡ class.Toxic
   route : scenario.route ≡ a.route
   table : scenario.table ≡ a.table
-  reading : reading_of scenario.table card.ground scenario.rate.0 scenario.endpoint ≡ reading.Distance a.distance
+  reading : reading_of scenario.table card.topography scenario.rate.0 scenario.endpoint ≡ reading.Distance a.distance
 
 read_toxic_lem : (x : Reading) (n : ℕ) (s : Scenario) {a : Answer} → read_toxic x n s ≡ answered.Is a → (a.class ≡ class.Toxic) × (s.route ≡ a.route) × (s.table ≡ a.table) × (x ≡ reading.Distance a.distance)
 read_toxic_lem (reading.Distance d) n s e =
@@ -61,7 +61,7 @@ read_toxic_lem reading.Beyond n s e = absurd (refused_not e)
 
 toxic_answer : (card : ToxicCard) (p : Planned) (n : ℕ) {a : Answer} → plan_of card ≡ p → planned_answer p n card ≡ answered.Is a → ToxicAnswer card a
 toxic_answer card (planned.Planned s) n q e =
-    let t = read_toxic_lem (reading_of s.table card.ground s.rate.0 s.endpoint) n s e in
+    let t = read_toxic_lem (reading_of s.table card.topography s.rate.0 s.endpoint) n s e in
     record { scenario = s; plan = q; class = t.0; route = t.1; table = t.2; reading = t.3 }
 toxic_answer card planned.Mismatch n q e = absurd (refused_not e)
 
@@ -128,7 +128,7 @@ record SameFields (f g : Fields) : Type 0 where
   kind : f.kind ≡ g.kind
   cas : f.cas ≡ g.cas
   state : f.state ≡ g.state
-  ground : f.ground ≡ g.ground
+  topography : f.topography ≡ g.topography
   heat : f.heat ≡ g.heat
   containment : f.containment ≡ g.containment
   quantity : f.pounds ≤ g.pounds
@@ -143,7 +143,7 @@ same_fields c =
       kind = c.kind;
       cas = c.cas;
       state = c.state;
-      ground = c.ground;
+      topography = c.topography;
       heat = c.temperature;
       containment = c.containment;
       quantity = c.quantity;
@@ -159,7 +159,7 @@ fuller {f} {g} {a} {b} s p q =
       cas = sym p.cas ∙ (s.cas ∙ q.cas);
       entry = sym p.entry ∙ (same_entry f g s.cas s.state s.heat ∙ q.entry);
       state = state_is (sym p.state ∙ (ap state_of s.state ∙ q.state));
-      ground = ground_is (sym p.ground ∙ (ap ground_of s.ground ∙ q.ground));
+      topography = ground_is (sym p.topography ∙ (ap ground_of s.topography ∙ q.topography));
       tenths = sym p.tenths ∙ (same_tenths f g s.cas s.state s.heat ∙ q.tenths);
       quantity = rw (← p.quantity, ← q.quantity) s.quantity;
       containment =
@@ -176,11 +176,11 @@ toxic_ordered {f} {g} {a} {b} s x y r t =
     let u = p.scenario in
     let v = q.scenario in
     let same_table : v.table ≡ u.table = q.table ∙ (sym t ∙ sym p.table) in
-    let far : reading_of u.table x.card.ground v.rate.0 u.endpoint ≡ reading.Distance b.distance =
-    ap (λ k. reading_of k x.card.ground v.rate.0 u.endpoint) (sym same_table)
-    ∙ (ap (λ k. reading_of v.table k v.rate.0 u.endpoint) f'.ground
-    ∙ (ap (λ k. reading_of v.table y.card.ground v.rate.0 k) h.endpoint ∙ q.reading)) in
-    reading_mono u.table x.card.ground u.endpoint u.rate.0 v.rate.0 a.distance b.distance h.rate p.reading far
+    let far : reading_of u.table x.card.topography v.rate.0 u.endpoint ≡ reading.Distance b.distance =
+    ap (λ k. reading_of k x.card.topography v.rate.0 u.endpoint) (sym same_table)
+    ∙ (ap (λ k. reading_of v.table k v.rate.0 u.endpoint) f'.topography
+    ∙ (ap (λ k. reading_of v.table y.card.topography v.rate.0 k) h.endpoint ∙ q.reading)) in
+    reading_mono u.table x.card.topography u.endpoint u.rate.0 v.rate.0 a.distance b.distance h.rate p.reading far
 
 flammable_ordered : {f g : Fields} {a b : Answer} → SameFields f g → (x : FlammableBytes f a) (y : FlammableBytes g b) → a.distance.0 ≤ b.distance.0
 flammable_ordered {f} {g} {a} {b} s x y =

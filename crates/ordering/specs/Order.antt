@@ -65,7 +65,7 @@ pub record Counterpart (x y : List ℕ) : Type 0 where
   pub kind : byte_at x 0 ≡ byte_at y 0
   pub cas : four_at x 4 ≡ four_at y 4
   pub state : byte_at x 1 ≡ byte_at y 1
-  pub ground : byte_at x 2 ≡ byte_at y 2
+  pub topography : byte_at x 2 ≡ byte_at y 2
   pub temperature : two_at x 18 ≡ two_at y 18
   pub containment : byte_at x 3 ≡ byte_at y 3
   pub quantity : four_at x 8 ≤ four_at y 8

@@ -46,7 +46,7 @@ read_table g n s {a} e = ⊎_elim above (λ k. k) (lt_or_ge 12 a.table)
         clash (cc)
 
 plan_table : (p : Planned) (n : ℕ) (card : ToxicCard) {a : Answer} → planned_answer p n card ≡ answered.Is a → a.table ≤ 12
-plan_table (planned.Planned s) n card e = read_table card.ground n s e
+plan_table (planned.Planned s) n card e = read_table card.topography n s e
 plan_table planned.Mismatch n card e = clash (cc)
 
 meaning_table : (m : Meaning) (n : ℕ) {a : Answer} → answer_for m n ≡ answered.Is a → a.table ≤ 12

@@ -5,11 +5,11 @@ use Rattle.promises.specs.Starred.{Row, card_of, row, toxic, given, not_given, a
 
 -- hydrochloric acid in state 5: ground, containment, pounds, area, wall, tenths of a percent
 abbrev pub hydrochloric : ℕ → ℕ → ℕ → ℕ → ℕ → ℕ → ℕ → List ℕ
-hydrochloric ground containment pounds area wall tenths = card_of 1 5 ground containment 7647010 pounds area wall tenths
+hydrochloric topography containment pounds area wall tenths = card_of 1 5 topography containment 7647010 pounds area wall tenths
 
 -- ammonia in water, in the open
 abbrev pub ammonia_water : ℕ → ℕ → ℕ → List ℕ
-ammonia_water ground tenths = card_of 1 5 ground in_open 7664417 10_000 0 0 tenths
+ammonia_water topography tenths = card_of 1 5 topography in_open 7664417 10_000 0 0 tenths
 
 unfoldable pub rows : List Row
 rows =

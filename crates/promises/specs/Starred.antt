@@ -43,8 +43,8 @@ use Rattle.cards.specs.Register.{Cards, answers, cards_from, cards_of, outcome_o
 
 -- a card's 24 bytes: kind, state, ground, containment, CAS number, pounds, area, wall, temperature, card number
 abbrev pub card_of : ℕ → ℕ → ℕ → ℕ → ℕ → ℕ → ℕ → ℕ → ℕ → ℕ → List ℕ
-card_of kind state ground containment cas pounds area wall heat number =
-    (kind ∷ state ∷ ground ∷ containment ∷ [])
+card_of kind state topography containment cas pounds area wall heat number =
+    (kind ∷ state ∷ topography ∷ containment ∷ [])
     ++ (four_bytes cas
     ++ (four_bytes pounds ++ (four_bytes area ++ (two_bytes wall ++ (two_bytes heat ++ four_bytes number)))))
 
@@ -126,7 +126,7 @@ in_building = 2
 
 -- chlorine in state 2. The paper names no floor for its building: none is read of a gas, so any will do that number 9 admits
 abbrev pub chlorine : ℕ → ℕ → ℕ → ℕ → ℕ → List ℕ
-chlorine ground containment floor pounds = card_of 1 2 ground containment 7782505 pounds floor 0 0
+chlorine topography containment floor pounds = card_of 1 2 topography containment 7782505 pounds floor 0 0
 
 abbrev pub sulfur_dioxide : ℕ → ℕ → List ℕ
 sulfur_dioxide pounds = card_of 1 2 rural in_open 7446095 pounds 0 0 0

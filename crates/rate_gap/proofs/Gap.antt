@@ -178,7 +178,7 @@ read_says reading.Beyond n chain s m = tt
 
 plan_says : (p : Planned) (n : ℕ) (card : ToxicCard) (chain : Chain) → Says chain p → SaysOf chain (planned_answer p n card)
 plan_says (planned.Planned s) n card chain m =
-    read_says (reading_of s.table card.ground s.rate.0 s.endpoint) n chain s m
+    read_says (reading_of s.table card.topography s.rate.0 s.endpoint) n chain s m
 plan_says planned.Mismatch n card chain m = tt
 
 -- a toxic card that was read is within document 01's limits

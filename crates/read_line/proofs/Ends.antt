@@ -75,7 +75,7 @@ module _ (text : List ℕ) (x : Taken) (e : x ≡ taken_at (Decimal 255) text 0)
           taken_is text 0 (Decimal 255) (sym e ∙ p) _ ∙ taken_is text at₁ (Decimal 255) (sym f ∙ q) _
           ∙ taken_not text at₂ (Decimal 255) (sym g ∙ r) _
 
-      module _ (ground at₃ : ℕ) (r : z ≡ taken.Is ground at₃) (w : Taken) (h : w ≡ taken_at (Decimal 255) text at₃) where
+      module _ (topography at₃ : ℕ) (r : z ≡ taken.Is topography at₃) (w : Taken) (h : w ≡ taken_at (Decimal 255) text at₃) where
         pub containment_bad : w ≡ taken.Malformed → codes_in (fields_in text) ≡ line.Malformed
         unfolding codes_in
         containment_bad s =
@@ -83,7 +83,7 @@ module _ (text : List ℕ) (x : Taken) (e : x ≡ taken_at (Decimal 255) text 0)
             ∙ taken_is text at₂ (Decimal 255) (sym g ∙ r) _ ∙ taken_not text at₃ (Decimal 255) (sym h ∙ s) _
 
         pub codes_good : (containment at₄ : ℕ) → w ≡ taken.Is containment at₄
-            → codes_in (fields_in text) ≡ amounts_in (record { kind = kind; state = state; ground = ground; containment = containment }) (fields_in (drop at₄ text))
+            → codes_in (fields_in text) ≡ amounts_in (record { kind = kind; state = state; topography = topography; containment = containment }) (fields_in (drop at₄ text))
         unfolding codes_in
         codes_good containment at₄ s =
             taken_is text 0 (Decimal 255) (sym e ∙ p) _ ∙ taken_is text at₁ (Decimal 255) (sym f ∙ q) _
@@ -152,7 +152,7 @@ module _ (text : List ℕ) (at : ℕ) (codes : Codes) (amounts : Amounts) (x : T
             ∙ taken_is text at₂ (Decimal 4_294_967_295) (sym g ∙ r) _ ∙ remark_not text at₃ _ (omega (arith, h)))
 
         pub eleven : length text ≤ end
-            → line.Card (record { kind = codes.kind; state = codes.state; ground = codes.ground; containment = codes.containment; cas = amounts.cas; pounds = amounts.pounds; area = amounts.area; wall = wall; heat = heat; number = number })
+            → line.Card (record { kind = codes.kind; state = codes.state; topography = codes.topography; containment = codes.containment; cas = amounts.cas; pounds = amounts.pounds; area = amounts.area; wall = wall; heat = heat; number = number })
             ≡ lasts_in codes amounts (fields_in (drop at text))
         unfolding lasts_in
         eleven k =

@@ -28,7 +28,7 @@ fn codes_of(line: &[u8]) -> CodesRead
         return CodesRead::Malformed;
     };
     let third = read_field::take_field(line, at2, Form::Decimal(ONE_BYTE));
-    let Taken::Is(ground, at3) = third else {
+    let Taken::Is(topography, at3) = third else {
         return CodesRead::Malformed;
     };
     let fourth = read_field::take_field(line, at3, Form::Decimal(ONE_BYTE));
@@ -38,7 +38,7 @@ fn codes_of(line: &[u8]) -> CodesRead
     let codes = Codes {
         kind: kind as u8,
         state: state as u8,
-        ground: ground as u8,
+        topography: topography as u8,
         containment: containment as u8,
     };
     CodesRead::Are(codes, at4)
@@ -86,7 +86,7 @@ fn lasts_at(line: &[u8], at: usize, codes: Codes, amounts: Amounts) -> Line
     Line::Card(Fields {
         kind: codes.kind,
         state: codes.state,
-        ground: codes.ground,
+        topography: codes.topography,
         containment: codes.containment,
         cas: amounts.cas,
         pounds: amounts.pounds,

@@ -22,7 +22,7 @@ header_end count behind b₀ b₁ b₂ b₃ size version last =
     (last ∙ ap (λ (b : List ℕ). sets b 5 (two_bytes count)) version.bytes)
 
 pub codes_end : (f : Fields) (b : List ℕ) (at : ℕ)
-    → set (set (set (set b at f.kind) (at + 1) f.state) (at + 2) f.ground) (at + 3) f.containment ≡ sets b at (code_bytes f)
+    → set (set (set (set b at f.kind) (at + 1) f.state) (at + 2) f.topography) (at + 3) f.containment ≡ sets b at (code_bytes f)
 unfolding code_bytes
 codes_end f b at = simp towards_suc
 

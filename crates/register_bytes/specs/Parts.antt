@@ -6,7 +6,7 @@ use Rattle.fields.specs.declared.Fields.{Fields}
 
 -- bytes 0 to 3; then CAS number, pounds and area; then wall, temperature and number
 unfoldable pub code_bytes : Fields → List ℕ
-code_bytes f = f.kind ∷ f.state ∷ f.ground ∷ f.containment ∷ []
+code_bytes f = f.kind ∷ f.state ∷ f.topography ∷ f.containment ∷ []
 
 unfoldable pub amount_bytes : Fields → List ℕ
 amount_bytes f = four_bytes f.cas ++ (four_bytes f.pounds ++ four_bytes f.area)

@@ -26,7 +26,7 @@ fn put_codes(out: &mut [u8], at: usize, fields: Fields)
 {
     out[at] = fields.kind;
     out[at + 1] = fields.state;
-    out[at + 2] = fields.ground;
+    out[at + 2] = fields.topography;
     out[at + 3] = fields.containment;
 }
 

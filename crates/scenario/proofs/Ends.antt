@@ -41,19 +41,19 @@ use Rattle.exhibits.specs.declared.Toxic.TheVariants as variants
 use Rattle.scenario.specs.Plan.{vapor_of, pool_of, undiked, pooled, gas_plan, column_in, liquid_plan, solution_plan, factored, plan_for, plan_of}
 
 -- route 1, put together from its calls
-pub vapor_end : (card : ToxicCard) (endpoint : ℕ) (plume : Plume) {t : ℕ} {rate : PoundsPerMinute} {inside : Bool} → inside ≡ is_building card.containment → rate.0 ≡ gas_rate card.quantity.0 inside → t ≡ table_of card.cas card.state plume card.ground true → ◌≡◌ {A = Scenario} (record { route = 1; table = t; rate = rate; endpoint = endpoint }) (vapor_of card endpoint plume)
+pub vapor_end : (card : ToxicCard) (endpoint : ℕ) (plume : Plume) {t : ℕ} {rate : PoundsPerMinute} {inside : Bool} → inside ≡ is_building card.containment → rate.0 ≡ gas_rate card.quantity.0 inside → t ≡ table_of card.cas card.state plume card.topography true → ◌≡◌ {A = Scenario} (record { route = 1; table = t; rate = rate; endpoint = endpoint }) (vapor_of card endpoint plume)
 unfolding vapor_of
 vapor_end card endpoint plume b r t =
     let p = r ∙ ap (gas_rate card.quantity.0) b in
     λ i. record { route = 1; table = t i; rate = record { 0 = p i }; endpoint = endpoint }
 
 -- route 2, put together from its calls
-pub pool_end : (card : ToxicCard) (df lf tcf : ℕ) (shed : Bool) (endpoint : ℕ) (plume : Plume) {t : ℕ} {area : SquareFeet} {rate : PoundsPerMinute} {ten : Bool} → area.0 ≡ pool_area card.quantity.0 df card.containment → rate.0 ≡ pool_rate lf tcf area.0 shed → ten ≡ at_most_ten_minutes card.quantity.0 rate.0 → t ≡ table_of card.cas card.state plume card.ground ten → ◌≡◌ {A = Scenario} (record { route = 2; table = t; rate = rate; endpoint = endpoint }) (pool_of card df lf tcf shed endpoint plume)
+pub pool_end : (card : ToxicCard) (df lf tcf : ℕ) (shed : Bool) (endpoint : ℕ) (plume : Plume) {t : ℕ} {area : SquareFeet} {rate : PoundsPerMinute} {ten : Bool} → area.0 ≡ pool_area card.quantity.0 df card.containment → rate.0 ≡ pool_rate lf tcf area.0 shed → ten ≡ at_most_ten_minutes card.quantity.0 rate.0 → t ≡ table_of card.cas card.state plume card.topography ten → ◌≡◌ {A = Scenario} (record { route = 2; table = t; rate = rate; endpoint = endpoint }) (pool_of card df lf tcf shed endpoint plume)
 unfolding pool_of
 pool_end card df lf tcf shed endpoint plume a r m t =
     let p = r ∙ ap (λ (n : ℕ). pool_rate lf tcf n shed) a in
     let d = m ∙ ap (at_most_ten_minutes card.quantity.0) p in
-    let q = t ∙ ap (table_of card.cas card.state plume card.ground) d in
+    let q = t ∙ ap (table_of card.cas card.state plume card.topography) d in
     λ i. record { route = 2; table = q i; rate = record { 0 = p i }; endpoint = endpoint }
 
 -- the plan in the case that a match has found

@@ -30,7 +30,7 @@ pub record Fuller (a b : ToxicCard) : Type 0 where
   pub cas : a.cas ≡ b.cas
   pub entry : a.entry ≡ b.entry
   pub state : a.state ≡ b.state
-  pub ground : a.ground ≡ b.ground
+  pub topography : a.topography ≡ b.topography
   pub tenths : a.tenths ≡ b.tenths
   pub quantity : a.quantity.0 ≤ b.quantity.0
   pub containment : Looser a.containment b.containment

@@ -33,7 +33,7 @@ unfoldable pub vapor_of : ToxicCard → ℕ → Plume → Scenario
 vapor_of card endpoint plume =
     record {
       route = 1;
-      table = table_of card.cas card.state plume card.ground true;
+      table = table_of card.cas card.state plume card.topography true;
       rate = record { 0 = gas_rate card.quantity.0 (is_building card.containment) };
       endpoint = endpoint;
     }
@@ -46,7 +46,7 @@ pool_of card df lf tcf shed endpoint plume =
     record {
       route = 2;
       table =
-          table_of card.cas card.state plume card.ground (at_most_ten_minutes card.quantity.0 rate);
+          table_of card.cas card.state plume card.topography (at_most_ten_minutes card.quantity.0 rate);
       rate = record { 0 = rate };
       endpoint = endpoint;
     }

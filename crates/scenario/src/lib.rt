@@ -26,7 +26,7 @@ pub struct ToxicCard {
     pub cas: u32,
     pub entry: Toxic,
     pub state: State,
-    pub ground: Ground,
+    pub topography: Ground,
     pub quantity: Pounds,
     pub tenths: Tenths,
     pub containment: Containment,
@@ -55,10 +55,10 @@ fn vapor(card: ToxicCard, endpoint: u32, plume: Plume) -> Scenario
     let containment = card.containment;
     let quantity = card.quantity;
     let state = card.state;
-    let ground = card.ground;
+    let topography = card.topography;
     let inside = release::is_building(containment);
     let rate = release::gas_rate(quantity, inside);
-    let number = which_table::table(card.cas, state, plume, ground, true);
+    let number = which_table::table(card.cas, state, plume, topography, true);
     Scenario {
         route: 1,
         table: number,
@@ -89,12 +89,12 @@ fn pool(card: ToxicCard, source: Source) -> Scenario
     let containment = card.containment;
     let quantity = card.quantity;
     let state = card.state;
-    let ground = card.ground;
+    let topography = card.topography;
     let plume = source.plume;
     let area = pool_area::pool_area(quantity, source.df, containment);
     let rate = release::pool_rate(source.lf, source.tcf, area, source.shed);
     let ten = release::at_most_ten_minutes(quantity, rate);
-    let number = which_table::table(card.cas, state, plume, ground, ten);
+    let number = which_table::table(card.cas, state, plume, topography, ten);
     Scenario {
         route: 2,
         table: number,

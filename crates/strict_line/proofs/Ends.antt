@@ -33,7 +33,7 @@ module _ {b₀ b₁ b₂ b₃ : List ℕ} {at second third end : ℕ} (f : Field
 
 module _ {b₀ b₁ b₂ b₃ b₄ : List ℕ} {at second third fourth end : ℕ} where
   pub codes_line : (f : Fields) → Wrote b₀ b₁ at second (digits f.kind ++ (44 ∷ [])) → Wrote b₁ b₂ second third (digits f.state ++ (44 ∷ []))
-      → Wrote b₂ b₃ third fourth (digits f.ground ++ (44 ∷ [])) → Wrote b₃ b₄ fourth end (digits f.containment ++ (44 ∷ []))
+      → Wrote b₂ b₃ third fourth (digits f.topography ++ (44 ∷ [])) → Wrote b₃ b₄ fourth end (digits f.containment ++ (44 ∷ []))
       → Wrote b₀ b₄ at end (codes_text f)
   unfolding codes_text closed
-  codes_line f kind state ground containment = simp append_assoc at (joined kind (joined state (joined ground containment)))
+  codes_line f kind state topography containment = simp append_assoc at (joined kind (joined state (joined topography containment)))

@@ -8,7 +8,7 @@ use Rattle.fields.specs.declared.Fields.{Fields}
 use Rattle.comma.specs.Strict.{cas_text, tenths_text}
 
 unfoldable pub codes_text : Fields → List ℕ
-codes_text f = closed 44 (digits f.kind ∷ digits f.state ∷ digits f.ground ∷ digits f.containment ∷ [])
+codes_text f = closed 44 (digits f.kind ∷ digits f.state ∷ digits f.topography ∷ digits f.containment ∷ [])
 
 unfoldable pub amounts_text : Fields → List ℕ
 amounts_text f = closed 44 (cas_text f.cas ∷ digits f.pounds ∷ digits f.area ∷ [])

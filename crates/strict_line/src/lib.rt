@@ -18,7 +18,7 @@ fn put_codes(out: &mut [u8], at: usize, fields: Fields) -> usize
 {
     let second = decimal::put_number_then(out, at, fields.kind as u64, b',');
     let third = decimal::put_number_then(out, second, fields.state as u64, b',');
-    let fourth = decimal::put_number_then(out, third, fields.ground as u64, b',');
+    let fourth = decimal::put_number_then(out, third, fields.topography as u64, b',');
     decimal::put_number_then(out, fourth, fields.containment as u64, b',')
 }
 

@@ -64,7 +64,7 @@ line_length f r h =
       arith,
       digits_short 0 f.kind (omega arith),
       digits_short 0 f.state (omega arith),
-      digits_short 0 f.ground (omega arith),
+      digits_short 0 f.topography (omega arith),
       digits_short 0 f.containment (omega arith),
       cas_short 4 f.cas (omega arith),
       digits_short 7 f.pounds (omega arith),
@@ -104,7 +104,7 @@ widest =
     (record {
       kind = 1;
       state = 4;
-      ground = 2;
+      topography = 2;
       containment = 1;
       cas = 10_025_873;
       pounds = 10_000_000;

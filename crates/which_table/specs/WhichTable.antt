@@ -45,12 +45,12 @@ ammonia_table Solution = 10
 
 -- "Chlorine: 11. Sulfur dioxide (7446095): 12." The last argument says whether route or duration selects the 10-minute table.
 unfoldable pub table_of : ℕ → State → Plume → Ground → Bool → ℕ
-table_of cas state plume ground ten =
+table_of cas state plume topography ten =
     elim (eqb cas 7664417) [
       | true ↦ ammonia_table state
       | false ↦
           elim (eqb cas 7782505) [
             | true ↦ 11
-            | false ↦ elim (eqb cas 7446095) [ true ↦ 12 | false ↦ generic_table (plume_in state plume) ground (ten_minutes_in state ten) ]
+            | false ↦ elim (eqb cas 7446095) [ true ↦ 12 | false ↦ generic_table (plume_in state plume) topography (ten_minutes_in state ten) ]
           ]
     ]

@@ -17,15 +17,15 @@ pub enum State {
     Solution,
 }
 
-fn generic_table(plume: Plume, ground: Ground, ten_minutes: bool) -> u8
-    ensures { result ≡ Rattle.which_table.specs.WhichTable.generic_table plume ground ten_minutes }
+fn generic_table(plume: Plume, topography: Ground, ten_minutes: bool) -> u8
+    ensures { result ≡ Rattle.which_table.specs.WhichTable.generic_table plume topography ten_minutes }
 {
     match plume {
-        Plume::Neutral => match ground {
+        Plume::Neutral => match topography {
             Ground::Rural => if ten_minutes { 1 } else { 2 },
             Ground::Urban => if ten_minutes { 3 } else { 4 },
         },
-        Plume::Dense => match ground {
+        Plume::Dense => match topography {
             Ground::Rural => if ten_minutes { 5 } else { 6 },
             Ground::Urban => if ten_minutes { 7 } else { 8 },
         },
@@ -69,8 +69,8 @@ fn ten_minutes_in(state: State, ten_minutes: bool) -> bool
 }
 
 // The reference table of a substance: three have their own, the others go by plume, ground and duration.
-pub fn table(cas: u32, state: State, plume: Plume, ground: Ground, ten_minutes: bool) -> u8
-    ensures { result ≡ table_of cas state plume ground ten_minutes }
+pub fn table(cas: u32, state: State, plume: Plume, topography: Ground, ten_minutes: bool) -> u8
+    ensures { result ≡ table_of cas state plume topography ten_minutes }
 {
     if cas == 7664417 {
         return ammonia_table(state);
@@ -82,5 +82,5 @@ pub fn table(cas: u32, state: State, plume: Plume, ground: Ground, ten_minutes: 
         return 12;
     }
     let ten = ten_minutes_in(state, ten_minutes);
-    generic_table(plume_in(state, plume), ground, ten)
+    generic_table(plume_in(state, plume), topography, ten)
 }

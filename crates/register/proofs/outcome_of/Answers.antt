@@ -1,6 +1,6 @@
 -- `register::outcome_of` meets its contract: the refusal of the header, or what the walk that writes nothing gives.
 -- Assumes nothing.
-use Rattle.cards.specs.Laws.{header_refused, header_good, good}
+use Rattle.cards.proofs.Laws.{header_refused, header_good, good}
 use borrow.Author.Rules.{rules}
 use Rattle.register.proofs.outcome_of.Goals as goal
 
