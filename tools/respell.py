@@ -113,7 +113,7 @@ def main(argv):
     turn = {name: turned(name) for name in [*found, *sorted(BOUND)] if turned(name) != name and name not in library}
     definitions = {new for name, new in turn.items() if re.search("[a-z0-9][A-Z]", name)}
     for name, new in turn.items():
-        if "-" in name and new in definitions:
+        if "-" in name and new in definitions and new not in APART:
             turn[name] = new + "_lem"
     bad = 0
     seen = {}
