@@ -36,7 +36,8 @@ use Rattle.likely_tables.specs.LikelyTables.{likely_tables, range_read, likely_i
 use Rattle.likely_scenario.specs.declared.LikelyAnswer.{LikelyAnswer}
 use Rattle.likely_scenario.specs.declared.LikelyAnswer.TheVariants as answer
 use Rattle.likely_scenario.specs.LikelyScenario.{bad_rate, likely_table, told, planned_likely, meant_likely, shaped_likely, card_likely, unless_refused, likely_of}
-use Rattle.line_laws.specs.Numbers.{Carries, CarriesIn, number_reads, in_use_within, number_by_row}
+use Rattle.line_laws.specs.Numbers.{Carries, CarriesIn}
+use Rattle.line_laws.proofs.Numbers.{number_reads, in_use_within, number_by_row}
 
 -- ---- all tables at once
 

@@ -16,7 +16,7 @@ use Rattle.interpolation.specs.declared.LikelyReading.TheVariants.{Is}
 use Rattle.interpolation.specs.declared.Likely.TheVariants.{Interpolated, Limit}
 use Rattle.interpolation.specs.Interpolation.{float_of, entry_read, between_rows, above_last, likely_by_row}
 use Rattle.likely_tables.specs.LikelyTables.{likely_tables, likely_in, likely_reading}
-use Rattle.line_laws.proofs.Reads as rows
+use Rattle.line_laws.proofs.Readings as rows
 use Rattle.likely_laws.specs.Numbers.{rates_in, entries_in, sound_table_lem, rates_climb, rates_exact, entries_within}
 
 -- the table of a number

@@ -1,2 +1,3 @@
 pub mod Line
-pub mod Reads
+pub mod Readings
+pub mod Numbers

@@ -18,7 +18,7 @@ use Rattle.interpolation.specs.declared.LikelyReading.TheVariants.{Is}
 use Rattle.interpolation.specs.Interpolation.{float_of, row_of, line_between, entry_read, between_rows, above_last, by_first, likely_at, likely_by_row}
 use Rattle.line_laws.proofs.Line.{line_low, line_high, line_mono}
 use Rattle.line_laws.specs.Rows.{held, place_printed, place_between, place_past}
-use Rattle.line_laws.specs.Numbers.{in_use_rises, in_use_within}
+use Rattle.line_laws.proofs.Numbers.{in_use_rises, in_use_within}
 
 -- ---- by the place that is found
 
