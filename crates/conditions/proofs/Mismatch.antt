@@ -14,7 +14,7 @@ use Rattle.exhibits.specs.declared.Corrections.{Corrections}
 use Rattle.exhibits.specs.declared.Gas as gases
 use Rattle.exhibits.specs.declared.Liquid as liquids
 use Rattle.exhibits.specs.declared.Toxic.{Toxic}
-use Rattle.exhibits.specs.declared.Toxic.TheVariants.{OfGas, OfLiquid, NotListed}
+use Rattle.exhibits.specs.declared.Toxic.TheVariants.{OfGas, OfLiquid, OfSolution, OutOfRange, NotListed}
 use Rattle.exhibits.specs.Printed.{solution}
 use Rattle.exhibits.specs.Exhibits.{factors_of, toxic_of}
 use Rattle.solutions.specs.Solutions.{solution_of}
@@ -276,6 +276,8 @@ module _ (card : List ℕ) (standing : Standing) (from : Stands (fields_of card)
       ap₂ (λ a b. unfit a b (byte_at card 1) (eqb (byte_at card 3) 1) no_cell) p q
       ∙ liquid_unfit (byte_at card 1) standing.state (eqb (byte_at card 3) 1) no_cell (made (OfLiquid l) (Temperature (signed (fields_of card).heat))) l n from.state
       (ap (λ (x : Corrections). both (not (above_fifty card)) (without_data (get_or (cells_in x) (column_read (signed (fields_of card).heat)) NoData))) (sym c) ∙ sym (factors_missing l (signed (fields_of card).heat)))
+  pure n (OfSolution _) seen h = elim seen [ ]
+  pure n OutOfRange seen h = elim seen [ ]
   pure n NotListed (neither p q) h = clash (cc)
 
   -- a solution, of what B-3 says

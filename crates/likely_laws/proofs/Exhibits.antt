@@ -24,7 +24,7 @@ use Rattle.which_table.specs.WhichTable.{plume_in, generic_table, ten_minutes_in
 use Rattle.scenario.specs.declared.ToxicCard.{ToxicCard}
 use Rattle.scenario.specs.declared.Tenths.TheVariants.{Concentration}
 use Rattle.likely_scenario.specs.LikelyScenario.{likely_table}
-use Rattle.likely_laws.specs.Exhibits.{exhibit4, generic_in, exhibit5, specific_in, ammonia_in, is_solution, printed_minutes, exhibits_table}
+use Rattle.likely_laws.specs.Exhibits.{chlorine, sulfur_dioxide, exhibit4, generic_in, exhibit5, specific_in, ammonia_in, is_solution, printed_minutes, exhibits_table}
 
 -- ---- every card
 

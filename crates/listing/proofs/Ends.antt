@@ -29,7 +29,8 @@ use Rattle.buffer.proofs.Laws.{joined, written_first}
 use Rattle.closing.specs.Closing.{leader_line, refused_line, too_long, unless_long}
 use Rattle.listing.specs.declared.Listed.TheVariants as listed
 use Rattle.listing.specs.Listing.{longest, leader_lines, listed_after, text_of, listing_room, if_room, listed_of, kept_if, listed_into}
-use Rattle.listing.proofs.Laws.{IsAccepted, accepted_text, accepted_walk, accepted_header, sent_back_text}
+use Rattle.listing.specs.Laws.{IsAccepted}
+use Rattle.listing.proofs.Laws.{accepted_text, accepted_walk, accepted_header, sent_back_text}
 
 module _ {b₀ b₁ b₂ : List ℕ} {at mid end : ℕ} where
   pub leaders_line : (l : Leaders) → Wrote b₀ b₁ at mid (leader_line 84 l.toxic) → Wrote b₁ b₂ mid end (leader_line 70 l.flammable) → Wrote b₀ b₂ at end (leader_lines l)

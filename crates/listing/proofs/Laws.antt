@@ -24,12 +24,8 @@ use Rattle.lines.specs.Lines.{card_line}
 use Rattle.closing.specs.Closing.{refused_line}
 use Rattle.listing.specs.declared.Listed.{Listed}
 use Rattle.listing.specs.declared.Listed.TheVariants as listed
+use Rattle.listing.specs.Laws.{IsAccepted}
 use Rattle.listing.specs.Listing.{card_lines, leader_lines, listing_of, listed_after, Within}
-
--- the register is accepted
-abbrev pub IsAccepted : Outcome → Type 0
-IsAccepted (outcome.Accepted l) = Unit {0}
-IsAccepted (outcome.Refused r place) = ⊥
 
 -- what the walk writes are the lines of the cards
 texts_lines : (xs : List Answer) → texts_of writes.Lines xs ≡ card_lines xs

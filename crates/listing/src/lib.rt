@@ -7,7 +7,7 @@ ghost use Rattle.buffer.specs.Wrote.{Wrote};
 ghost use Rattle.header.specs.Header.{enough, header_of};
 ghost use Rattle.cards.specs.Register.{outcome_of};
 ghost use Rattle.listing.specs.Listing.{leader_lines, listed_after, listing_room, listed_of, listed_into, Within};
-ghost use Rattle.listing.proofs.Laws.{IsAccepted};
+ghost use Rattle.listing.specs.Laws.{IsAccepted};
 
 use farthest::Leaders;
 use header::Header;
