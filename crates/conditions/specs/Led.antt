@@ -3,11 +3,9 @@
 -- The theorem is `led_exactly` of proofs/Led.antt.
 -- Assumes nothing.
 use Rattle.std.specs.Prelude.{ℕ, ◌≡◌, List}
-use Rattle.refusals.specs.declared.Refusal.{Refusal}
 use Rattle.farthest.specs.declared.Leaders.{Leaders}
 use Rattle.header.specs.Header.{enough}
 use Rattle.walk.specs.declared.Outcome.TheVariants as outcome
-use Rattle.cards.specs.Register.{outcome_of}
 use Rattle.prefix.specs.Prefix.{prefix_of}
 use Rattle.conditions.specs.Conditions.{conditions_at}
 use Rattle.conditions.specs.Claim.{ExactlyBy}

@@ -1,8 +1,7 @@
 -- Exhibits 4 and 5 of the guidance's Chapter 8 as printed, and that the definition's choice of a table is theirs: over a table of cases, and
 -- of every card at every duration.
 -- Assumes nothing.
-use Rattle.std.specs.Prelude.{ℕ, ◌+◌, ◌≡◌, refl, List, [], ◌∷◌, map, Bool, true, false, leb, eqb}
-use Rattle.std.proofs.Common.{ap, ◌∙◌}
+use Rattle.std.specs.Prelude.{ℕ, ◌≡◌, refl, List, [], ◌∷◌, map, Bool, true, false, leb, eqb}
 use Rattle.search.specs.Rising.{both}
 use Rattle.search.specs.Places.{either, among, look_up}
 use Rattle.exhibits.specs.declared.Plume.{Plume}
@@ -12,7 +11,7 @@ use Rattle.exhibits.specs.PrintedB1.{b1}
 use Rattle.exhibits.specs.PrintedB2.{b2}
 use Rattle.exhibits.specs.PrintedB4.{b4}
 use Rattle.exhibits.specs.Lines.{dense_of}
-use Rattle.exhibits.specs.Exhibits.{alternative_plume, factors_of, toxic_of}
+use Rattle.exhibits.specs.Exhibits.{factors_of, toxic_of}
 use Rattle.solutions.specs.PrintedB3.{b3}
 use Rattle.solutions.specs.Solutions.{bad_percent, highest, lines_of, lowest, solution_of}
 use Rattle.dispersion.specs.declared.Ground.{Ground}
@@ -20,8 +19,7 @@ use Rattle.dispersion.specs.declared.Ground.TheVariants.{Rural, Urban}
 use Rattle.release.specs.declared.Containment.TheVariants.{Open}
 use Rattle.which_table.specs.declared.State.{State}
 use Rattle.which_table.specs.declared.State.TheVariants.{Gas, Pressurized, Refrigerated, Liquid, Solution}
-use Rattle.which_table.specs.WhichTable.{plume_in, generic_table, ten_minutes_in, ammonia_table, table_of}
-use Rattle.scenario.specs.declared.ToxicCard.{ToxicCard}
+use Rattle.which_table.specs.WhichTable.{plume_in, table_of}
 use Rattle.scenario.specs.declared.Tenths.TheVariants.{Concentration}
 use Rattle.likely_scenario.specs.LikelyScenario.{likely_table}
 

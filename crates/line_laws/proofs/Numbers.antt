@@ -1,12 +1,11 @@
 -- Every likely distance that a table of rows answers is a number between 0 and 2,500, in hundredths of a mile, whatever the rate.
 -- Assumes nothing.
-use Rattle.std.specs.Prelude.{ℕ, zero, suc, ◌-◌, ◌^◌, ◌≤◌, ◌<◌, ◌≡◌, List, [], ◌∷◌, Bool, T, leb, eqb, Float, length, get_or, take}
+use Rattle.std.specs.Prelude.{ℕ, zero, suc, ◌-◌, ◌^◌, ◌≤◌, ◌<◌, ◌≡◌, List, [], ◌∷◌, Bool, leb, eqb, length, get_or, take}
 use Rattle.std.proofs.Common.{zero-le, le_refl, arith}
 use Rattle.std.proofs.Math.Nat.{le-suc}
 use Rattle.std.proofs.Math.Path.{refl}
 use Rattle.std.proofs.Math.Bool.{true, false}
 use Rattle.std.proofs.Math.Dec.{ltb}
-use Rattle.std.specs.Float.Ieee.{le}
 use borrow.Author.Tests.{ltb-true, leb-true}
 use Rattle.search.specs.Rising.{first_at_least}
 use Rattle.search.specs.Laws.{first_reaches, both_true}

@@ -10,7 +10,6 @@ use Rattle.card.specs.declared.Answer.{Answer}
 use Rattle.header.specs.declared.Header.{Header}
 use Rattle.header.specs.declared.Header.TheVariants as header
 use Rattle.header.specs.Header.{enough, header_of}
-use Rattle.walk.specs.declared.Outcome.{Outcome}
 use Rattle.walk.specs.declared.Outcome.TheVariants as outcome
 use Rattle.running.specs.declared.Running.{Running}
 use Rattle.running.specs.Running.{before_cards}

@@ -18,7 +18,7 @@ use Rattle.scenario.specs.declared.Planned.TheVariants as planned
 use Rattle.scenario.specs.Plan.{plan_of}
 use Rattle.scenario.specs.Order.{Fuller, plan_faster}
 use Rattle.fields.specs.declared.Fields.{Fields}
-use Rattle.buffer.specs.Numbers.{byte_at, two_at, four_at}
+use Rattle.buffer.specs.Numbers.{byte_at}
 use Rattle.fields.specs.Layout.{fields_of}
 use Rattle.meaning.specs.declared.FlammableCard.{FlammableCard}
 use Rattle.refusals.specs.declared.Refusal.{Refusal}
@@ -30,10 +30,8 @@ use Rattle.form.specs.Inverse.{state_is, ground_is, held_looser}
 use Rattle.meaning.specs.Reading.{bad_number, meaning_if, shaped, meaning_of}
 use Rattle.meaning.specs.States.{same_entry, same_tenths}
 use Rattle.meaning.specs.Inverse.{ToxicFrom, FlammableFrom, toxic_from, flammable_from}
-use Rattle.card.specs.declared.Class.{Class}
 use Rattle.card.specs.declared.Class.TheVariants as class
 use Rattle.card.specs.declared.Answer.{Answer}
-use Rattle.card.specs.declared.Answered.{Answered}
 use Rattle.card.specs.declared.Answered.TheVariants as answered
 use Rattle.card.specs.Answers.{read_toxic, planned_answer, answer_for, answer_of}
 use Rattle.ordering.specs.Order.{kind_of, route_in, table_in, route_of, table_of, Counterpart}

@@ -1,41 +1,12 @@
 -- The counterpart of a card, from the bytes, and the law on two cards: a counterpart never answers less.
 -- Assumes nothing.
-use Rattle.std.specs.Prelude.{ℕ, ◌≤◌, ◌<◌, ◌≡◌, refl, Bool, true, false, List, ◌⊎◌, leb, eqb}
-use Rattle.std.proofs.Common.{arith, ◌∙◌, sym, ap, inl, inr, ⊎_elim, leb-false}
-use Rattle.std.proofs.lemmas.Bool.{lt-leb}
-use Rattle.search.specs.Laws.{clash}
-use Rattle.search.specs.Places.{either}
-use Rattle.units.specs.declared.Reading.{Reading}
-use Rattle.units.specs.declared.Reading.TheVariants as reading
-use Rattle.dispersion.specs.Tables.{reading_of}
-use Rattle.dispersion.proofs.Laws.{reading_mono}
-use Rattle.blast.specs.Blast.{ring_of}
-use Rattle.blast.proofs.Laws.{fuller_no_smaller}
-use Rattle.scenario.specs.declared.ToxicCard.{ToxicCard}
-use Rattle.scenario.specs.declared.Scenario.{Scenario}
-use Rattle.scenario.specs.declared.Planned.{Planned}
-use Rattle.scenario.specs.declared.Planned.TheVariants as planned
-use Rattle.scenario.specs.Plan.{plan_of}
-use Rattle.scenario.specs.Order.{Fuller, plan_faster}
-use Rattle.fields.specs.declared.Fields.{Fields}
+use Rattle.std.specs.Prelude.{ℕ, ◌≤◌, ◌≡◌, List}
 use Rattle.buffer.specs.Numbers.{byte_at, two_at, four_at}
-use Rattle.fields.specs.Layout.{fields_of}
-use Rattle.meaning.specs.declared.FlammableCard.{FlammableCard}
-use Rattle.refusals.specs.declared.Refusal.{Refusal}
-use Rattle.refusals.specs.declared.Refusal.TheVariants as refusal
-use Rattle.meaning.specs.declared.Meaning.{Meaning}
-use Rattle.meaning.specs.declared.Meaning.TheVariants as meaning
-use Rattle.form.specs.Form.{state_of, ground_of, held_of, shape_of}
-use Rattle.form.specs.Inverse.{state_is, ground_is, held_looser}
-use Rattle.meaning.specs.Reading.{bad_number, meaning_if, shaped, meaning_of}
-use Rattle.meaning.specs.States.{same_entry, same_tenths}
-use Rattle.meaning.specs.Inverse.{ToxicFrom, FlammableFrom, toxic_from, flammable_from}
 use Rattle.card.specs.declared.Class.{Class}
 use Rattle.card.specs.declared.Class.TheVariants as class
-use Rattle.card.specs.declared.Answer.{Answer}
 use Rattle.card.specs.declared.Answered.{Answered}
 use Rattle.card.specs.declared.Answered.TheVariants as answered
-use Rattle.card.specs.Answers.{read_toxic, planned_answer, answer_for, answer_of}
+use Rattle.card.specs.Answers.{answer_of}
 
 -- "A class is kind 1 or kind 2."
 abbrev pub kind_of : Class → ℕ

@@ -6,19 +6,19 @@ use Rattle.dispersion.proofs.neutral.Goals as goal
 
 pub returns-in-1 : goal.returns-in-1
 unfolding reading_of read_in tables
-returns-in-1 c topography = rw c.in-1.is c.table_1.ensures
+returns-in-1 c topography = rw c.in-1.is (cc)
 
 pub returns-in-2 : goal.returns-in-2
 unfolding reading_of read_in tables
-returns-in-2 c topography = rw c.in-2.is c.table_2.ensures
+returns-in-2 c topography = rw c.in-2.is (cc)
 
 pub returns-in-3 : goal.returns-in-3
 unfolding reading_of read_in tables
-returns-in-3 c topography = rw c.in-3.is c.table_3.ensures
+returns-in-3 c topography = rw c.in-3.is (cc)
 
 pub returns-in-4 : goal.returns-in-4
 unfolding reading_of read_in tables
-returns-in-4 c topography = rw c.in-4.is c.table_4.ensures
+returns-in-4 c topography = rw c.in-4.is (cc)
 
 pub returns-in_default : goal.returns-in_default
 unfolding reading_of read_in tables

@@ -5,16 +5,16 @@ use Rattle.likely_words.proofs.tell_likely.Goals as goal
 
 pub returns-in-Is : goal.returns-in-Is
 returns-in-Is c = record {
-    value = search (told_code, rules);
-    table_after = search (told_table, rules);
-    found_after = search (told_found, rules);
-    hundredths_after = search (told_hundredths, rules);
+  value = search (told_code, rules);
+  table_after = search (told_table, rules);
+  found_after = search (told_found, rules);
+  hundredths_after = search (told_hundredths, rules);
 }
 
 pub returns-in-Refused : goal.returns-in-Refused
 returns-in-Refused c = record {
-    value = search (refused_code, rules);
-    table_after = search (refused_table, rules);
-    found_after = search (refused_found, rules);
-    hundredths_after = search (refused_hundredths, rules);
+  value = search (refused_code, rules);
+  table_after = search (refused_table, rules);
+  found_after = search (refused_found, rules);
+  hundredths_after = search (refused_hundredths, rules);
 }

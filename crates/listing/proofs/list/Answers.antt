@@ -9,14 +9,14 @@ returns-then-out-lt-ROOM c = search (no_room, kept, rules)
 
 pub returns-then-register-gt-LONGEST : goal.returns-then-register-gt-LONGEST
 returns-then-register-gt-LONGEST c = record {
-    value = search (long_listed, rules);
-    out_after = search (long_into, rules);
-    within = search rules;
+  value = search (long_listed, rules);
+  out_after = search (long_into, rules);
+  within = search rules;
 }
 
 pub returns : goal.returns
 returns c = record {
-    value = search (short_listed, rules);
-    out_after = search (short_into, rules);
-    within = search rules;
+  value = search (short_listed, rules);
+  out_after = search (short_into, rules);
+  within = search rules;
 }

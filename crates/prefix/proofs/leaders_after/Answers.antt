@@ -7,8 +7,8 @@ use Rattle.prefix.proofs.leaders_after.Goals as goal
 
 pub returns-in_default : goal.returns-in_default
 returns-in_default c = record {
-    value = search (header_told, rules);
-    keeps = search (header_told, kept, rules);
+  value = search (header_told, rules);
+  keeps = search (header_told, kept, rules);
 }
 
 pub slice_bounds-leaders_at-count : goal.slice_bounds-leaders_at-count

@@ -6,8 +6,8 @@ use Rattle.rings_c.proofs.rings_answer.Goals as goal
 
 pub returns : goal.returns
 returns c = record {
-    value = search (told_code, rules);
-    answers_after = search rules;
-    toxic_after = search (told_word, rules);
-    flammable_after = search (told_word, rules);
+  value = search (told_code, rules);
+  answers_after = search rules;
+  toxic_after = search (told_word, rules);
+  flammable_after = search (told_word, rules);
 }

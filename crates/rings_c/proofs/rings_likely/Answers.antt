@@ -5,8 +5,8 @@ use Rattle.rings_c.proofs.rings_likely.Goals as goal
 
 pub returns : goal.returns
 returns c = record {
-    value = search (likely_code_lem, rules);
-    table_after = search (likely_table_lem, rules);
-    found_after = search (likely_found, rules);
-    hundredths_after = search (likely_hundredths, rules);
+  value = search (likely_code_lem, rules);
+  table_after = search (likely_table_lem, rules);
+  found_after = search (likely_found, rules);
+  hundredths_after = search (likely_hundredths, rules);
 }
