@@ -1,7 +1,7 @@
 #!/usr/bin/env bash
-# Compiles the C programs against the proved archive, which `rt lib` has written. What the example prints is compared with the listings and the leaders,
-# the comma lines of the examples are read into their registers and written from them, likely distances are found, and old
-# answers are told.
+# Compiles the C programs against the proved archive, which `rt lib` has written. What the example prints is compared with the
+# listings and the leaders, the comma lines of the examples are read into their registers and written from them, likely distances
+# are found, and old answers are told.
 set -euo pipefail
 cd "$(dirname "$0")/.."
 mkdir -p target

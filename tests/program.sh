@@ -41,6 +41,7 @@ test -s target/rings-error
 # ./list prints the listing and nothing beside it: on standard error only, and only where crates have to be proved for it, which
 # crates those are, so that a second run is quiet; a file that is not there ends it with a message and status 1
 ./list examples/document-01.register 2>target/list-progress | diff - examples/document-01.listing
+{ grep -v '^proving: ' target/list-progress || true; } | diff - /dev/null
 ./list examples/document-01.register 2>target/list-error | diff - examples/document-01.listing
 test ! -s target/list-error
 status=0

@@ -17,6 +17,7 @@ use Rattle.header.specs.Header.{count_of, bad_length, bad_version, bad_count}
 use Rattle.comma.specs.Text.{card_bytes, bytes_of, size_of, header_bytes, register_of}
 use Rattle.comma.specs.Strict.{fields_from}
 use Rattle.comma.proofs.StrictLaws.{Fitting, AllFitting}
+use Rattle.comma.specs.CardLaws.{AllBytes}
 
 -- ---- lengths
 
@@ -82,10 +83,6 @@ register_read xs fit =
     ∙ fields_back xs fit
 
 -- ---- bytes
-
--- every byte is below 256; one past the end reads 0
-abbrev pub AllBytes : List ℕ → Type 0
-AllBytes bytes = (i : ℕ) → byte_at bytes i < 256
 
 -- also where some in front, or behind, are left out
 pub drop_bytes : (n : ℕ) (b : List ℕ) → AllBytes b → AllBytes (drop n b)

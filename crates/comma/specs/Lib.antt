@@ -3,3 +3,4 @@ pub mod Text
 pub mod Strict
 pub mod Stages
 pub mod Examples
+pub mod CardLaws

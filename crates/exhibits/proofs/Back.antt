@@ -15,7 +15,8 @@ use Rattle.exhibits.specs.PrintedB1.{b1}
 use Rattle.exhibits.specs.PrintedB2.{b2}
 use Rattle.exhibits.specs.Exhibits.{toxic_of}
 use Rattle.exhibits.specs.Lines.{kind_of, dense_of, plume_from, code_of, cell_from, line_of, gas_from, liquid_from, solution_from}
-use Rattle.exhibits.proofs.Laws.{CellWithin, Within, listed, within}
+use Rattle.exhibits.specs.Laws.{CellWithin, Within}
+use Rattle.exhibits.proofs.Laws.{listed, within}
 
 plume_back : (p : Plume) → plume_from (dense_of p) ≡ p
 plume_back Neutral = refl

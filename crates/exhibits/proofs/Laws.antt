@@ -16,6 +16,7 @@ use Rattle.exhibits.specs.PrintedB2.{b2}
 use Rattle.exhibits.specs.PrintedB4.{b4}
 use Rattle.exhibits.specs.Exhibits.{gas_cas, liquid_cas, gas_in, liquid_in, factors_of, toxic_of}
 use Rattle.exhibits.specs.Lines.{lfa_of, lfb_of, df_of, corrections_of, line_of}
+use Rattle.exhibits.specs.Laws.{CellWithin, Within}
 
 -- a CAS number that is in neither exhibit
 pub not_listed : (cas : ℕ) → among cas (map gas_cas b1 ++ map liquid_cas b2) ≡ false → toxic_of cas ≡ NotListed
@@ -46,12 +47,6 @@ listed ok none gases liquids cas =
     look_each gas_cas gas_in cas ok b1 (look_up liquid_cas liquid_in cas b2 NotListed)
     (look_each liquid_cas liquid_in cas ok b2 NotListed none liquids) gases
 
--- "TCF the temperature factor of Exhibit B-4 (at most 10, hundredths)"
-abbrev pub CellWithin : Cell → Type 0
-CellWithin (Factor n) = n ≤ 1000
-CellWithin Lfb = Unit {0}
-CellWithin NoData = Unit {0}
-
 abbrev cell_fits : Cell → Bool
 cell_fits (Factor n) = leb n 1000
 cell_fits Lfb = true
@@ -61,17 +56,6 @@ cell_within : (x : Cell) → cell_fits x ≡ true → CellWithin x
 cell_within (Factor n) e = leb-true n 1000 e
 cell_within Lfb e = tt
 cell_within NoData e = tt
-
--- "DF is the density factor (at most 2, two decimals), LFA and LFB the liquid factors at 25 °C and at boiling (at most 1, held in millionths)"
-pub record Within (t : Toxic) : Type 0 where
-  pub lfa_limit : lfa_of t ≤ 1000000
-  pub lfb_limit : lfb_of t ≤ 1000000
-  pub df_limit : df_of t ≤ 200
-  pub at30_limit : CellWithin (corrections_of t).at30
-  pub at35_limit : CellWithin (corrections_of t).at35
-  pub at40_limit : CellWithin (corrections_of t).at40
-  pub at45_limit : CellWithin (corrections_of t).at45
-  pub at50_limit : CellWithin (corrections_of t).at50
 
 -- the same as a test that computes
 unfoldable pub fits : Toxic → Bool

@@ -6,7 +6,7 @@ use Rattle.exhibits.specs.declared.Cell.{Cell}
 use Rattle.exhibits.specs.declared.Cell.TheVariants.{Factor, Lfb, NoData}
 use Rattle.exhibits.specs.declared.Toxic.TheVariants as variants
 use Rattle.exhibits.specs.declared.Liquid.{Liquid}
-use Rattle.exhibits.proofs.Laws.{Within, CellWithin}
+use Rattle.exhibits.specs.Laws.{Within, CellWithin}
 use Rattle.factors.specs.declared.Column.{Column}
 use Rattle.factors.specs.declared.Column.TheVariants.{At25, At30, At35, At40, At45, At50, Above}
 use Rattle.factors.specs.declared.Factors.{Factors}

@@ -6,7 +6,7 @@ use Rattle.search.specs.Laws.{clash}
 use Rattle.dispersion.specs.declared.Ground.{Ground}
 use Rattle.release.specs.declared.Containment.{Containment}
 use Rattle.release.specs.declared.Containment.TheVariants.{Building, ShedWithDoors}
-use Rattle.pool_area.proofs.Laws.{Looser, open_open, dike_dike, building_building, shed_shed}
+use Rattle.pool_area.specs.Laws.{Looser, open_open, dike_dike, building_building, shed_shed}
 use Rattle.which_table.specs.declared.State.{State}
 use Rattle.fields.specs.declared.Fields.{Fields}
 use Rattle.refusals.specs.declared.Refusal.{Refusal}

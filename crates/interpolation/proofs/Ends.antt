@@ -1,5 +1,5 @@
 -- One law for each way out of a function that goes by tests: what the tests and the calls on the way say is what the
--- definition says. `search (law, needs)` puts them to use.
+-- definition says. `search (law, rules)` puts them to use.
 -- Assumes nothing.
 use Rattle.std.proofs.Common.{◌≡◌, ℕ, zero, suc, ◌-◌, ◌<◌, ◌≤◌, List, length, get_or, sym, refl, ap, ◌∙◌, subst, arith, le-ltb, lt-ltb, eq-eqb, ne_eqb}
 use lib.Ieee.{Float}

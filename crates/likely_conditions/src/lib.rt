@@ -1,2 +1,2 @@
-// When a likely scenario is sent back, exactly: a crate of theorems, in specs/. It has no code of its own.
+// When a likely scenario is sent back, exactly: a crate of theorems, in specs/ and proofs/. It has no code of its own.
 #![tactic(auto)]

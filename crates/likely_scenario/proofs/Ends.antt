@@ -1,5 +1,5 @@
 -- One law for each way out of a function that goes by tests: what the tests and the calls on the way say is what the
--- definition says. `search (law, needs)` puts them to use.
+-- definition says. `search (law, rules)` puts them to use.
 -- Assumes nothing.
 use Prim.Native.Nat.{ℕ, ◌+◌, ◌≤◌}
 use mathlib.Core.Path.{◌≡◌, ◌∙◌, ap, sym}

@@ -1,2 +1,2 @@
-// What is proved of the line between two rows of a table: a crate of theorems, in specs/. It has no code of its own.
+// What is proved of the line between two rows of a table: a crate of theorems, in specs/ and proofs/. It has no code of its own.
 #![tactic(auto)]

@@ -1,5 +1,5 @@
 -- One law for each way out of a function that goes by tests: what the tests and the calls on the way say is what the
--- definition says. `search (law, needs)` puts them to use.
+-- definition says. `search (law, rules)` puts them to use.
 -- Assumes nothing.
 use Prim.Native.Nat.{ℕ, ◌≤◌}
 use mathlib.Core.Path.{◌≡◌, ◌∙◌, ap, sym, subst}
@@ -9,7 +9,8 @@ use borrow.Author.Tests.{eq-eqb, ne_eqb}
 use Rattle.units.specs.declared.Pounds.{Pounds}
 use Rattle.exhibits.specs.declared.Toxic.{Toxic}
 use Rattle.exhibits.specs.Exhibits.{toxic_of}
-use Rattle.exhibits.proofs.Laws.{Within, within}
+use Rattle.exhibits.specs.Laws.{Within}
+use Rattle.exhibits.proofs.Laws.{within}
 use Rattle.solutions.specs.Solutions.{solution_of}
 use Rattle.solutions.proofs.SolutionLaws.{solution_within}
 use Rattle.scenario.specs.declared.Tenths.{Tenths}

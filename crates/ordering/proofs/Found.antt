@@ -9,14 +9,15 @@ use Rattle.card.specs.declared.Answered.{Answered}
 use Rattle.card.specs.declared.Answered.TheVariants as answered
 use Rattle.card.specs.Answers.{answer_of}
 use Rattle.farthest.specs.declared.Leaders.{Leaders}
-use Rattle.farthest.specs.Farthest.{At, leaders_of}
+use Rattle.farthest.specs.Farthest.{At}
 use Rattle.header.specs.declared.Header.{Header}
 use Rattle.header.specs.declared.Header.TheVariants as header
 use Rattle.header.specs.Header.{bad_length, bad_version, bad_count, bad_buffer, header_if, header_of, count_of}
 use Rattle.walk.specs.declared.Outcome.TheVariants as outcome
-use Rattle.cards.specs.Register.{Cards, answers, sent_back, joined, then, cards_from, cards_of, result_of, after_header, outcome_of}
+use Rattle.cards.specs.Register.{Cards, answers, sent_back, then, cards_from, cards_of, result_of, after_header, outcome_of}
 use Rattle.cards.proofs.Laws.{joined_is}
 use Rattle.ordering.specs.Claim.{card_at}
+use Rattle.ordering.specs.Found.{Found}
 
 -- the answer at a place is that of the card's bytes there, after some last number
 pub AnswerAt : List ℕ → ℕ → Answer → Type 0
@@ -103,12 +104,6 @@ any_header bytes room other (header.Refused r) p k e = clash (cc)
 pub any_room : (bytes : List ℕ) (room other : ℕ) {l : Leaders} → outcome_of bytes room ≡ outcome.Accepted l → 16 * count_of bytes ≤ other → outcome_of bytes other ≡ outcome.Accepted l
 unfolding outcome_of
 any_room bytes room other e k = any_header bytes room other (header_of bytes room) refl k e
-
--- an accepted call: its header is good, and its cards are all answered
-pub record Found (bytes : List ℕ) (leaders : Leaders) : Type 0 where
-  pub list : List Answer
-  pub cards : cards_from (count_of bytes) 0 0 (drop 7 bytes) ≡ answers list
-  pub leads : leaders_of list ≡ leaders
 
 cards_found : (bytes : List ℕ) (n : ℕ) (c : Cards) {l : Leaders} → count_of bytes ≡ n → cards_of n bytes ≡ c → result_of c ≡ outcome.Accepted l → Found bytes l
 unfolding cards_of

@@ -1,2 +1,2 @@
-// The ordering of rings: a crate of theorems, in specs/. It has no code of its own.
+// The ordering of rings: a crate of theorems, in specs/ and proofs/. It has no code of its own.
 #![tactic(auto)]

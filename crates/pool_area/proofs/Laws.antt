@@ -4,11 +4,9 @@ use Rattle.std.specs.Prelude.{ℕ, ◌+◌, ◌-◌, ◌*◌, ◌/◌, ◌≤◌
 use Rattle.std.proofs.Common.{le_refl, mul-le-mul, mul-le-mul_left, mul-le-mul_right, arith, leb-true, leb-false}
 use Rattle.std.proofs.Math.Nat.{le-pred_of_lt}
 use Rattle.release.specs.declared.Containment.{Containment}
-use Rattle.release.specs.declared.Dike.{Dike as DikeOf}
-use Rattle.release.specs.declared.Building.{Building as BuildingOf}
-use Rattle.release.specs.declared.ShedWithDoors.{ShedWithDoors as ShedOf}
 use Rattle.release.specs.declared.Containment.TheVariants.{Open, Dike, Building, ShedWithDoors}
 use Rattle.pool_area.specs.Pool.{full_area, diked_area, pool_area, held, spilt}
+use Rattle.pool_area.specs.Laws.{Looser, building_building, dike_dike, open_open, shed_shed}
 
 -- the closed form of a dike's pool, with nothing left of its cases
 abbrev pub closed_form : ℕ → ℕ → ℕ → ℕ
@@ -45,13 +43,6 @@ full_below pounds df p d =
 pub held_below : (area wall : ℕ) → area < 2 ^ 40 → wall < 2 ^ 16 → area * wall < 2 ^ 56
 held_below area wall a w =
     let h : area * wall ≤ area * 65535 = mul-le-mul_left area (le-pred_of_lt w) in omega arith
-
--- a containment that holds no more: the same kind, with an equal dike area and no higher wall, or no smaller floor
-pub data Looser : Containment → Containment → Type 0 where
-  open_open : Looser Open Open
-  dike_dike : (d e : DikeOf) → d.area ≡ e.area → e.wall ≤ d.wall → Looser (Dike d) (Dike e)
-  building_building : (b e : BuildingOf) → b.floor.0 ≤ e.floor.0 → Looser (Building b) (Building e)
-  shed_shed : (s e : ShedOf) → s.floor.0 ≤ e.floor.0 → Looser (ShedWithDoors s) (ShedWithDoors e)
 
 closed_mono : (full more area wall low : ℕ) → full ≤ more → low ≤ wall → closed_form full area wall ≤ closed_form more area low
 closed_mono full more area wall low f w =

@@ -28,7 +28,8 @@ use Rattle.cards.specs.Register.{Cards, answers, sent_back, cards_from, cards_of
 use Rattle.cards.proofs.Laws.{cards_count}
 use Rattle.ordering.specs.Claim.{card_at}
 use Rattle.ordering.proofs.Ordering.{in_result}
-use Rattle.ordering.proofs.Found.{Found, found, header_count, from_card, to_card}
+use Rattle.ordering.specs.Found.{Found}
+use Rattle.ordering.proofs.Found.{found, header_count, from_card, to_card}
 use Rattle.prefix.specs.Prefix.{result_after, result_behind, prefix_of}
 use Rattle.prefix.specs.Claim.{distance_in, distance_of, Among, Leader, FarthestOfFirst, Keeps}
 

@@ -19,7 +19,8 @@ use Rattle.walk.specs.declared.Outcome.TheVariants as outcome
 use Rattle.cards.specs.Register.{Cards, answers, sent_back, cards_from, cards_of, result_of, after_header, outcome_of, bytes_of, filled_with, filled_after, buffer_of}
 use Rattle.cards.proofs.Laws.{cards_count, bytes_length}
 use Rattle.ordering.specs.Claim.{card_at, Accepts}
-use Rattle.ordering.proofs.Found.{Found, found, header_count, any_room, to_card}
+use Rattle.ordering.specs.Found.{Found}
+use Rattle.ordering.proofs.Found.{found, header_count, any_room, to_card}
 
 good_filled : (bytes out : List ℕ) (h : Header) {l : Leaders} (f : Found bytes l) → header_of bytes (length out) ≡ h → after_header h bytes ≡ outcome.Accepted l → filled_after h bytes out ≡ bytes_of f.list ++ drop (length (bytes_of f.list)) out
 unfolding cards_of

@@ -11,7 +11,8 @@ use Rattle.exhibits.specs.declared.Toxic.{Toxic}
 use Rattle.exhibits.specs.declared.Toxic.TheVariants as variants
 use Rattle.exhibits.specs.declared.Gas as gases
 use Rattle.exhibits.specs.declared.Liquid as liquids
-use Rattle.exhibits.proofs.Laws.{Within, within}
+use Rattle.exhibits.specs.Laws.{Within}
+use Rattle.exhibits.proofs.Laws.{within}
 use Rattle.solutions.proofs.SolutionLaws.{solution_within}
 use Rattle.dispersion.specs.Tables.{reading_of}
 use Rattle.release.specs.declared.Containment.{Containment}

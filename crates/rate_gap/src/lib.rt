@@ -1,2 +1,2 @@
-// How far a rate may be off: a crate of theorems, in specs/. It has no code of its own.
+// How far a rate may be off: a crate of theorems, in specs/ and proofs/. It has no code of its own.
 #![tactic(auto)]

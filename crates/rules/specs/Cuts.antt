@@ -1,5 +1,5 @@
--- What the code searches instead of the printed numbers, as computed from them: cut points and scaled bounds. The laws in the
--- modules beside this one say that they mean what `Rules` says.
+-- What the code searches instead of the printed numbers, as computed from them: cut points and scaled bounds. The laws in
+-- proofs/ say that they mean what `Rules` says.
 -- Assumes nothing.
 use Rattle.std.specs.Prelude.{ℕ, ◌+◌, ◌*◌, ◌-◌, ◌/◌, List, [], ◌∷◌, map, Bool, true, ltb}
 use Rattle.search.specs.Rising.{both}

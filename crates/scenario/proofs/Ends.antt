@@ -1,5 +1,5 @@
 -- One law for each way out of a function that goes by tests: what the tests and the calls on the way say is what the
--- definition says. `search (ends, needs)` puts them to use.
+-- definition says. `search (ends, rules)` puts them to use.
 -- Assumes nothing.
 use Prim.Native.Nat.{ℕ, ◌≤◌}
 use mathlib.Core.Path.{◌≡◌, ◌∙◌, refl, ap, sym, subst}
@@ -36,7 +36,7 @@ use Rattle.factors.specs.declared.Factors.{Factors}
 use Rattle.factors.specs.declared.Factors.TheVariants.{Read, Missing}
 use Rattle.factors.specs.Factors.{column_of, factors_of}
 use Rattle.factors.proofs.Laws.{FactorsWithin, factors_within}
-use Rattle.exhibits.proofs.Laws.{Within}
+use Rattle.exhibits.specs.Laws.{Within}
 use Rattle.exhibits.specs.declared.Toxic.TheVariants as variants
 use Rattle.scenario.specs.Plan.{vapor_of, pool_of, undiked, pooled, gas_plan, column_in, liquid_plan, solution_plan, factored, plan_for, plan_of}
 

@@ -13,7 +13,8 @@ use Rattle.release.specs.declared.Containment.TheVariants.{Open, Dike, Building,
 use Rattle.release.specs.Rates.{gas_rate, is_building}
 use Rattle.pool_area.specs.Pool.{beyond_dike}
 use Rattle.release.proofs.Laws.{gas_mono, pool_mono}
-use Rattle.pool_area.proofs.Laws.{Looser, open_open, dike_dike, building_building, shed_shed, area_mono}
+use Rattle.pool_area.specs.Laws.{Looser, open_open, dike_dike, building_building, shed_shed}
+use Rattle.pool_area.proofs.Laws.{area_mono}
 use Rattle.which_table.specs.declared.State.{State}
 use Rattle.which_table.specs.declared.State.TheVariants.{Gas, Pressurized, Refrigerated, Liquid, Solution}
 use Rattle.scenario.specs.declared.ToxicCard.{ToxicCard}

@@ -5,7 +5,7 @@ use Rattle.std.specs.Prelude.{ℕ, ◌≤◌, Bool, true, false}
 use Rattle.exhibits.specs.declared.Plume.{Plume}
 use Rattle.exhibits.specs.declared.Toxic.{Toxic}
 use Rattle.exhibits.specs.declared.Toxic.TheVariants as variants
-use Rattle.exhibits.proofs.Laws.{Within}
+use Rattle.exhibits.specs.Laws.{Within}
 use Rattle.exhibits.specs.declared.Gas as gases
 use Rattle.exhibits.specs.declared.Liquid as liquids
 use Rattle.exhibits.specs.declared.Solution as solutions

@@ -2,7 +2,7 @@
 #![tactic(auto)]
 
 ghost use Rattle.std.specs.Prelude.{◌≡◌, ◌≤◌};
-ghost use Rattle.exhibits.proofs.Laws.{Within};
+ghost use Rattle.exhibits.specs.Laws.{Within};
 ghost use Rattle.scenario.specs.Plan.{vapor_of, pool_of, undiked, gas_plan, column_in, liquid_plan, solution_plan, plan_of, Limits};
 
 use dispersion::Ground;

@@ -10,7 +10,8 @@ use Rattle.search.specs.PlaceLaws.{neither, among_each}
 use Rattle.exhibits.specs.declared.Toxic.{Toxic}
 use Rattle.exhibits.specs.declared.Toxic.TheVariants.{OutOfRange, NotListed}
 use Rattle.exhibits.specs.Printed.{SolutionLine}
-use Rattle.exhibits.proofs.Laws.{Within, fits, fits_within, Positive, has_endpoint, above_zero}
+use Rattle.exhibits.specs.Laws.{Within}
+use Rattle.exhibits.proofs.Laws.{fits, fits_within, Positive, has_endpoint, above_zero}
 use Rattle.solutions.specs.PrintedB3.{b3}
 use Rattle.solutions.specs.Solutions.{solution_cas, percent_of, solution_in, lines_of, Found, none, found, lower, lowest, highest, bad_percent, line_read, unless_out, solution_of}
 

@@ -32,7 +32,8 @@ use Rattle.cards.specs.Register.{cards_from, cards_of, outcome_of}
 use Rattle.comma.specs.Text.{card_bytes, bytes_of, header_bytes, register_of}
 use Rattle.comma.specs.Strict.{cas_text, heat_text, tenths_text, field_texts, strict_line, strict_lines, fields_from}
 use Rattle.comma.proofs.StrictLaws.{AllFitting, cas_short, heat_cases, tenths_cases}
-use Rattle.comma.proofs.CardLaws.{AllBytes, from_length}
+use Rattle.comma.specs.CardLaws.{AllBytes}
+use Rattle.comma.proofs.CardLaws.{from_length}
 use Rattle.write_lines.specs.Writing.{fields_of_register, strict_text}
 use Rattle.texts.specs.Claim.{Accepted, Longest, Reached}
 use Rattle.texts.proofs.Accepted.{AllMean, all_mean}

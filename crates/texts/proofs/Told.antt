@@ -14,7 +14,8 @@ use Rattle.comma.specs.declared.Converted.TheVariants as converted
 use Rattle.comma.specs.Text.{Cards, cards, bad, cards_in, size_of, register_of, bad_room, read_as, reading_of, filled_with, read_into}
 use Rattle.comma.specs.Strict.{fields_from}
 use Rattle.comma.proofs.StrictLaws.{AllFitting, text_fitting}
-use Rattle.comma.proofs.CardLaws.{AllBytes, drop_bytes, from_length, from_fitting, register_length, register_read, register_back, register_count}
+use Rattle.comma.specs.CardLaws.{AllBytes}
+use Rattle.comma.proofs.CardLaws.{drop_bytes, from_length, from_fitting, register_length, register_read, register_back, register_count}
 use Rattle.write_lines.specs.Writing.{fields_of_register}
 use Rattle.texts.specs.Claim.{Accepted, Reads, ReadsInto}
 use Rattle.texts.proofs.Accepted.{headed}

@@ -11,7 +11,7 @@ use Rattle.header.specs.Header.{count_of}
 use Rattle.ordering.specs.Claim.{Accepts}
 use Rattle.comma.specs.declared.Converted.TheVariants as converted
 use Rattle.comma.specs.Text.{reading_of, read_into}
-use Rattle.comma.proofs.CardLaws.{AllBytes}
+use Rattle.comma.specs.CardLaws.{AllBytes}
 use Rattle.write_lines.specs.Writing.{fields_of_register, strict_text, writing_of, write_into}
 
 -- Document 01: "A register is accepted if the call that fills the answer buffer gives no refusal for it with some answer buffer"

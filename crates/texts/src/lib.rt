@@ -1,2 +1,2 @@
-// Comma texts and registers: a crate of theorems, in specs/. It has no code of its own.
+// Comma texts and registers: a crate of theorems, in specs/ and proofs/. It has no code of its own.
 #![tactic(auto)]
