@@ -1,6 +1,7 @@
 -- One law for each way out of the checks: what the tests and the calls on the way say is what the definition says.
 -- `search (law, rules)` puts them to use.
 -- Assumes nothing.
+use Rattle.std.specs.Prelude.{Result, Ok, Err}
 use Prim.Native.Nat.{ℕ, ◌≤◌, ◌<◌}
 use mathlib.Core.Path.{◌≡◌, ◌∙◌, ap, ap₂, sym}
 use mathlib.Core.Bool.{Bool, true, false}
@@ -11,8 +12,6 @@ use Rattle.scenario.specs.declared.Tenths.TheVariants.{Temperature, Concentratio
 use Rattle.fields.specs.declared.Fields.{Fields}
 use Rattle.refusals.specs.declared.Refusal.{Refusal}
 use Rattle.refusals.specs.declared.Refusal.TheVariants as refusal
-use Rattle.ranges.specs.declared.Bounds.{Bounds}
-use Rattle.ranges.specs.declared.Bounds.TheVariants as bounds
 use Rattle.ranges.specs.Ranges.{bad_pounds, bad_area, bad_wall, tenths_of, bad_tenths, is_out_of_range, bounds_if, bounds_of, bounds_refusal}
 use Rattle.ranges.proofs.Laws.{pounds_within}
 
@@ -22,11 +21,11 @@ pounds_fit n b e q = pounds_within n (sym e ∙ q)
 
 -- 8, 9, 14, 15 and 16 in turn
 module _ (f : Fields) (x : Toxic) where
-  pub bounds_pounds : (b : Bool) → b ≡ bad_pounds f.pounds → b ≡ true → bounds.Refused refusal.Quantity ≡ bounds_of x f
+  pub bounds_pounds : (b : Bool) → b ≡ bad_pounds f.pounds → b ≡ true → Err refusal.Quantity ≡ bounds_of x f
   unfolding bounds_of
   bounds_pounds b e q = let p : bad_pounds f.pounds ≡ true = sym e ∙ q in simp p
 
-  pub bounds_area : (b d : Bool) → b ≡ bad_pounds f.pounds → b ≡ false → d ≡ bad_area f.containment f.area → d ≡ true → bounds.Refused refusal.Area ≡ bounds_of x f
+  pub bounds_area : (b d : Bool) → b ≡ bad_pounds f.pounds → b ≡ false → d ≡ bad_area f.containment f.area → d ≡ true → Err refusal.Area ≡ bounds_of x f
   unfolding bounds_of
   bounds_area b d e q g r =
       let p : bad_pounds f.pounds ≡ false = sym e ∙ q in
@@ -34,9 +33,9 @@ module _ (f : Fields) (x : Toxic) where
       simp (p, s)
 
   -- the checks of bytes 18 and 19, where the wall is in range or not
-  abbrev behind : Bool → Bool → Bool → Tenths → Bounds
+  abbrev behind : Bool → Bool → Bool → Tenths → Result Tenths Refusal
   behind wall heat out t =
-      bounds_if wall refusal.Wall (bounds_if heat refusal.Temperature (bounds_if out refusal.Concentration (bounds.Within t)))
+      bounds_if wall refusal.Wall (bounds_if heat refusal.Temperature (bounds_if out refusal.Concentration (Ok t)))
 
   -- what is left where the first two passed
   module _ (b d : Bool) (e : b ≡ bad_pounds f.pounds) (q : b ≡ false) (g : d ≡ bad_area f.containment f.area) (r : d ≡ false) where
@@ -47,7 +46,7 @@ module _ (f : Fields) (x : Toxic) where
         let s : bad_area f.containment f.area ≡ false = sym g ∙ r in
         simp (p, s)
 
-    pub bounds_wall : 10_000 < f.wall → bounds.Refused refusal.Wall ≡ bounds_of x f
+    pub bounds_wall : 10_000 < f.wall → Err refusal.Wall ≡ bounds_of x f
     unfolding bad_wall
     bounds_wall w =
         ap (λ u. behind u (bad_tenths (tenths_of f)) (is_out_of_range x) (tenths_of f)) (sym (lt-ltb 10_000 f.wall w)) ∙ behind_area
@@ -60,18 +59,18 @@ module _ (f : Fields) (x : Toxic) where
           ap₂ (λ c u. behind false c (is_out_of_range x) u) (h ∙ ap bad_tenths m) m
           ∙ (ap (λ u. behind u (bad_tenths (tenths_of f)) (is_out_of_range x) (tenths_of f)) (sym (le-ltb 10_000 f.wall w)) ∙ behind_area)
 
-      pub bounds_heat : k ≡ true → bounds.Refused refusal.Temperature ≡ bounds_of x f
+      pub bounds_heat : k ≡ true → Err refusal.Temperature ≡ bounds_of x f
       bounds_heat u = ap (λ c. behind false c (is_out_of_range x) t) (sym u) ∙ behind_wall
 
       behind_heat : k ≡ false → (o v : Bool) → o ≡ is_out_of_range x → o ≡ v → behind false false v t ≡ bounds_of x f
       behind_heat u o v n z = ap₂ (λ c y. behind false c y t) (sym u) (sym z ∙ n) ∙ behind_wall
 
-      pub bounds_concentration : k ≡ false → (o : Bool) → o ≡ is_out_of_range x → o ≡ true → bounds.Refused refusal.Concentration ≡ bounds_of x f
+      pub bounds_concentration : k ≡ false → (o : Bool) → o ≡ is_out_of_range x → o ≡ true → Err refusal.Concentration ≡ bounds_of x f
       bounds_concentration u o n z = behind_heat u o true n z
 
-      pub bounds_within : k ≡ false → (o : Bool) → o ≡ is_out_of_range x → o ≡ false → bounds.Within t ≡ bounds_of x f
+      pub bounds_within : k ≡ false → (o : Bool) → o ≡ is_out_of_range x → o ≡ false → Ok t ≡ bounds_of x f
       bounds_within u o n z = behind_heat u o false n z
 
 -- the refusal that is handed on
-pub refusal_given : (found : Bounds) (r : Refusal) → found ≡ bounds.Refused r → r ≡ bounds_refusal found
+pub refusal_given : (found : Result Tenths Refusal) (r : Refusal) → found ≡ Err r → r ≡ bounds_refusal found
 refusal_given found r e = sym (ap bounds_refusal e)

@@ -2,42 +2,33 @@
 #![tactic(auto)]
 
 ghost use Rattle.std.specs.Prelude.{◌≡◌};
-ghost use Rattle.ranges.specs.Ranges.{bounds_of, bounds_refusal, BoundsLimits};
+ghost use Rattle.ranges.specs.Ranges.{bounds_of, BoundsLimits};
 
 use exhibits::Toxic;
 use fields::Fields;
-use ranges::Bounds;
 use refusals::Refusal;
+use scenario::Tenths;
 
-// The ranges of a toxic card's numbers, in turn, and its temperature or concentration.
-pub fn bounds_of(f: Fields, entry: Toxic) -> Bounds
+// The ranges of a toxic card's numbers, in turn, and its temperature or concentration where all of them are kept to.
+pub fn bounds_of(f: Fields, entry: Toxic) -> Result<Tenths, Refusal>
     ensures value { result ≡ bounds_of entry f }
     ensures bounds_limits { BoundsLimits f result }
 {
     if ranges::bad_pounds(f.pounds) {
-        return Bounds::Refused(Refusal::Quantity);
+        return Err(Refusal::Quantity);
     }
     if ranges::bad_area(f.containment, f.area) {
-        return Bounds::Refused(Refusal::Area);
+        return Err(Refusal::Area);
     }
     if 10_000 < f.wall {
-        return Bounds::Refused(Refusal::Wall);
+        return Err(Refusal::Wall);
     }
     let tenths = ranges::tenths_of(f);
     if ranges::bad_tenths(tenths) {
-        return Bounds::Refused(Refusal::Temperature);
+        return Err(Refusal::Temperature);
     }
     if ranges::is_out_of_range(entry) {
-        return Bounds::Refused(Refusal::Concentration);
+        return Err(Refusal::Concentration);
     }
-    Bounds::Within(tenths)
-}
-
-pub fn bounds_refusal(found: Bounds) -> Refusal
-    ensures { result ≡ bounds_refusal found }
-{
-    match found {
-        Bounds::Within(_) => Refusal::Concentration,
-        Bounds::Refused(refusal) => refusal,
-    }
+    Ok(tenths)
 }

@@ -4,14 +4,13 @@
 ghost use Rattle.std.specs.Prelude.{◌≡◌};
 ghost use Rattle.scenario.specs.Plan.{Limits, plan_of};
 ghost use Rattle.card.specs.Answers.{read_toxic, planned_answer, blast_answer, answer_of};
-ghost use Rattle.card.specs.declared.Answered.TheVariants.{Is};
 ghost use Rattle.blast.specs.Blast.{ring_of};
 ghost use Rattle.dispersion.specs.Tables.{reading_of};
 
 use meaning::{FlammableCard, Meaning};
 use refusals::Refusal;
-use scenario::{Planned, Scenario, ToxicCard};
-use units::{Miles, PoundsPerMinute, Reading};
+use scenario::{Scenario, ToxicCard};
+use units::{Miles, PoundsPerMinute};
 
 // The two classes of which a register tells the farthest card: kinds 1 and 2.
 #[derive(Clone, Copy)]
@@ -31,70 +30,61 @@ pub struct Answer {
     pub distance: Miles,
 }
 
-// A card's answer, or why it is sent back.
-#[derive(Clone, Copy)]
-pub enum Answered {
-    Is(Answer),
-    Refused(Refusal),
-}
-
 // A toxic scenario, read off its table.
-fn toxic_read(number: u32, card: ToxicCard, scenario: Scenario) -> Answered
+fn toxic_read(number: u32, card: ToxicCard, scenario: Scenario) -> Result<Answer, Refusal>
     ensures { result ≡ read_toxic (reading_of scenario.table card.topography scenario.rate.0 scenario.endpoint) number scenario }
 {
-    let topography = card.topography;
-    let rate = scenario.rate;
-    let reading = dispersion::read(scenario.table, topography, rate, scenario.endpoint);
-    let Reading::Distance(distance) = reading else {
-        return Answered::Refused(Refusal::Beyond);
+    let reading = dispersion::read(
+        scenario.table,
+        card.topography,
+        scenario.rate,
+        scenario.endpoint,
+    );
+    let Some(distance) = reading else {
+        return Err(Refusal::Beyond);
     };
-    Answered::Is(Answer {
+    Ok(Answer {
         number,
         class: Class::Toxic,
         route: scenario.route,
         table: scenario.table,
-        rate,
+        rate: scenario.rate,
         distance,
     })
 }
 
 // A toxic card: planned, then read.
-fn toxic_answer(number: u32, card: ToxicCard) -> Answered
+fn toxic_answer(number: u32, card: ToxicCard) -> Result<Answer, Refusal>
     requires { Limits card }
     ensures { result ≡ planned_answer (plan_of card) number card }
 {
-    let plan = scenario::plan(card);
-    let Planned::Planned(scenario) = plan else {
-        return Answered::Refused(Refusal::Mismatch);
+    let Some(scenario) = scenario::plan(card) else {
+        return Err(Refusal::Mismatch);
     };
     toxic_read(number, card, scenario)
 }
 
 // A flammable card: a blast, by the equation. No table is read, which number 0 tells.
-fn flammable_answer(number: u32, card: FlammableCard) -> Answered
-    ensures { result ≡ Is (blast_answer (ring_of card.cas card.quantity.0) number) }
+fn flammable_answer(number: u32, card: FlammableCard) -> Answer
+    ensures { result ≡ blast_answer (ring_of card.cas card.quantity.0) number }
 {
-    let quantity = card.quantity;
-    let distance = blast::ring(card.cas, quantity);
-    Answered::Is(Answer {
+    Answer {
         number,
         class: Class::Flammable,
         route: 3,
         table: 0,
         rate: release::no_rate(),
-        distance,
-    })
+        distance: blast::ring(card.cas, card.quantity),
+    }
 }
 
 // The answer of a card's bytes, after the last card's number. Bytes past the end of a short card read as zero.
-pub fn answer_of(card: &[u8], last: u32) -> Answered
+pub fn answer_of(card: &[u8], last: u32) -> Result<Answer, Refusal>
     ensures { result ≡ answer_of card.now last }
 {
     let f = fields::fields_of(card);
-    let found = meaning::meaning_of(f, last);
-    match found {
+    match meaning::meaning_of(f, last)? {
         Meaning::Toxic(toxic) => toxic_answer(f.number, toxic),
-        Meaning::Flammable(flammable) => flammable_answer(f.number, flammable),
-        Meaning::Refused(refusal) => Answered::Refused(refusal),
+        Meaning::Flammable(flammable) => Ok(flammable_answer(f.number, flammable)),
     }
 }

@@ -1,6 +1,10 @@
 -- One law for each return of the calls that walk: what a walk through all cards ends with is the call's answer, and what it wrote is
 -- what belongs into the lent buffer.
 -- Assumes nothing.
+use Rattle.std.specs.Prelude.{Result, Ok, Err}
+use Rattle.farthest.specs.declared.Leaders.{Leaders}
+use Rattle.refusals.specs.declared.SentBack.{SentBack}
+use Rattle.refusals.specs.Numbers.{refused_at}
 use Prim.Native.Nat.{ℕ, suc, zero, ◌+◌, ◌*◌, ◌≤◌}
 use native.Mathlib.Omega.{arith}
 use mathlib.Core.Path.{◌≡◌, ◌∙◌, refl, ap, sym, subst}
@@ -12,16 +16,10 @@ use Rattle.buffer.specs.Wrote.{Wrote}
 use Rattle.buffer.proofs.Laws.{written_first}
 use Rattle.refusals.specs.declared.Refusal.{Refusal}
 use Rattle.card.specs.declared.Answer.{Answer}
-use Rattle.card.specs.declared.Answered.{Answered}
-use Rattle.card.specs.declared.Answered.TheVariants as answered
 use Rattle.card.specs.Answers.{answer_of}
 use Rattle.encode.specs.Bytes.{answer_bytes}
-use Rattle.walk.specs.declared.Outcome.{Outcome}
-use Rattle.walk.specs.declared.Outcome.TheVariants as outcome
 use Rattle.running.specs.declared.Running.{Running}
 use Rattle.running.specs.Running.{before_cards, step_to, step_of}
-use Rattle.walk.specs.declared.Walked.{Walked}
-use Rattle.walk.specs.declared.Walked.TheVariants as walked
 use Rattle.walk.specs.declared.Writes.{Writes}
 use Rattle.walk.specs.declared.Writes.TheVariants as writes
 use Rattle.walk.specs.Walk.{text_of, texts_of, walk_from, write_on, text_from, end_of, Within}
@@ -36,7 +34,7 @@ texts_bytes [] = refl
 texts_bytes (a ∷ xs) = ap (λ text. answer_bytes a ++ text) (texts_bytes xs)
 
 -- the part of the walk's buffer that is copied: it is there, it is as long as what was written, and it fits where the answers fit
-module _ (n size : ℕ) (x : Walked) (t : Running) (q : x ≡ walked.On t size) (within : Within (16 * n) x) where
+module _ (n size : ℕ) (x : Result (Running × ℕ) (SentBack ℕ)) (t : Running) (q : x ≡ Ok (t, size)) (within : Within (16 * n) x) where
   few : size ≤ 16 * n
   few = subst (Within (16 * n)) q within
 
@@ -56,24 +54,24 @@ unfolding text_from step_of cards_from
 only_refused w zero bytes r place h e = refl
 only_refused w (suc zero) bytes r place h e = go (answer_of (take 24 bytes) 0) e
   where
-    go : (x : Answered) → then x 0 (λ k. cards_from 0 1 k (drop 24 bytes)) ≡ sent_back r place → write_on (step_to x before_cards) (λ t a. text_of w a ++ text_from w 0 t (drop 24 bytes)) ≡ []
-    go (answered.Is a) q = let z : ◌≡◌ {A = ℕ} 0 1 = cc in clash z
-    go (answered.Refused s) q = refl
+    go : (x : Result Answer Refusal) → then x 0 (λ k. cards_from 0 1 k (drop 24 bytes)) ≡ sent_back r place → write_on (step_to x before_cards) (λ t a. text_of w a ++ text_from w 0 t (drop 24 bytes)) ≡ []
+    go (Ok a) q = let z : ◌≡◌ {A = ℕ} 0 1 = cc in clash z
+    go (Err s) q = refl
 only_refused w (suc (suc n)) bytes r place h e = absurd (omega arith)
 
 module _ (n : ℕ) (bytes : List ℕ) where
-  module _ (w : Writes) (x : Walked) (e : x ≡ walk_from w n before_cards 0 bytes) where
-    pub walked_result : (r : Outcome) → r ≡ end_of x → r ≡ result_of (cards_from n 0 0 bytes)
+  module _ (w : Writes) (x : Result (Running × ℕ) (SentBack ℕ)) (e : x ≡ walk_from w n before_cards 0 bytes) where
+    pub walked_result : (r : Result Leaders (SentBack ℕ)) → r ≡ end_of x → r ≡ result_of (cards_from n 0 0 bytes)
     walked_result r g = g ∙ (ap end_of e ∙ end_result w n bytes)
 
-    pub on_result : (t : Running) (size : ℕ) → x ≡ walked.On t size → outcome.Accepted t.leaders ≡ result_of (cards_from n 0 0 bytes)
-    on_result t size q = walked_result (outcome.Accepted t.leaders) (ap end_of (sym q))
+    pub on_result : (t : Running) (size : ℕ) → x ≡ Ok (t, size) → Ok t.leaders ≡ result_of (cards_from n 0 0 bytes)
+    on_result t size q = walked_result (Ok t.leaders) (ap end_of (sym q))
 
-    pub refused_result : (r : Refusal) (place : ℕ) → x ≡ walked.Refused r place → outcome.Refused r place ≡ result_of (cards_from n 0 0 bytes)
-    refused_result r place q = walked_result (outcome.Refused r place) (ap end_of (sym q))
+    pub refused_result : (r : Refusal) (place : ℕ) → x ≡ Err (refused_at r place) → Err (refused_at r place) ≡ result_of (cards_from n 0 0 bytes)
+    refused_result r place q = walked_result (Err (refused_at r place)) (ap end_of (sym q))
 
     -- a refused register leaves the lent buffer as it was
-    pub refused_kept : (out : List ℕ) (r : Refusal) (place : ℕ) → x ≡ walked.Refused r place → out ≡ filled_with (cards_from n 0 0 bytes) out
+    pub refused_kept : (out : List ℕ) (r : Refusal) (place : ℕ) → x ≡ Err (refused_at r place) → out ≡ filled_with (cards_from n 0 0 bytes) out
     refused_kept out r place q = ap (λ c. filled_with c out) (sym (stopped w n before_cards bytes r place (sym e ∙ q)))
 
   -- a walk over cards that are all answered leaves their bytes in front, in any buffer that has room for them
@@ -83,7 +81,7 @@ module _ (n : ℕ) (bytes : List ℕ) where
       ∙ written_first (bytes_of xs) own (omega (arith, bytes_length xs, cards_count n 0 0 bytes xs e))
 
   -- an accepted register has what the walk's buffer holds of the answers copied over its front
-  pub copied : (x : Walked) (t : Running) (size next : ℕ) (own held out after : List ℕ) → x ≡ walk_from writes.Answers n before_cards 0 bytes → x ≡ walked.On t size
+  pub copied : (x : Result (Running × ℕ) (SentBack ℕ)) (t : Running) (size next : ℕ) (own held out after : List ℕ) → x ≡ walk_from writes.Answers n before_cards 0 bytes → x ≡ Ok (t, size)
       → held ≡ sets own 0 (text_from writes.Answers n before_cards bytes) → Wrote out after 0 next (take size held) → 16 * n ≤ length own → 16 * n ≤ length out
       → after ≡ filled_with (cards_from n 0 0 bytes) out
   copied x t size next own held out after e q f w h k =

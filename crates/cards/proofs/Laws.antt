@@ -1,21 +1,18 @@
 -- What callers use of a register's cards and of its header.
 -- Assumes nothing.
-use Rattle.std.specs.Prelude.{ℕ, zero, suc, ◌-◌, ◌*◌, ◌≤◌, ◌≡◌, refl, List, [], ◌∷◌, length, take, drop}
+use Rattle.std.specs.Prelude.{ℕ, zero, suc, ◌-◌, ◌*◌, ◌≤◌, ◌≡◌, refl, List, [], ◌∷◌, length, take, drop, Result, Ok, Err}
+use Rattle.farthest.specs.declared.Leaders.{Leaders}
+use Rattle.refusals.specs.declared.SentBack.{SentBack}
+use Rattle.refusals.specs.Numbers.{refused_at}
 use Rattle.std.proofs.Common.{arith, ◌∙◌, sym, subst, length-append, length-take, length-drop, take_all}
 use Rattle.std.proofs.Math.Path.{ap}
 use Rattle.search.specs.Laws.{clash}
 use Rattle.refusals.specs.declared.Refusal.{Refusal}
 use Rattle.card.specs.declared.Answer.{Answer}
-use Rattle.card.specs.declared.Answered.{Answered}
-use Rattle.card.specs.declared.Answered.TheVariants as answered
 use Rattle.card.specs.Answers.{answer_of}
 use Rattle.encode.specs.Bytes.{answer_bytes}
 use Rattle.encode.specs.Laws.{length_answer}
-use Rattle.header.specs.declared.Header.{Header}
-use Rattle.header.specs.declared.Header.TheVariants as header
 use Rattle.header.specs.Header.{header_of, header_refusal, HeaderFits, Fitting}
-use Rattle.walk.specs.declared.Outcome.{Outcome}
-use Rattle.walk.specs.declared.Outcome.TheVariants as outcome
 use Rattle.cards.specs.Register.{Cards, answers, sent_back, joined, then, cards_from, cards_of, result_of, after_header, outcome_of, bytes_of, filled_with, filled_after, buffer_of}
 
 -- where one answer more in front gives cards that are all answered, the cards behind it are
@@ -34,11 +31,11 @@ cards_count zero place last bytes (x ∷ xs) e = let z : ◌≡◌ {A = ℕ} 0 1
 cards_count (suc n) place last bytes xs e =
     go (answer_of (take 24 bytes) last) (λ a ys. cards_count n (suc place) a.number (drop 24 bytes) ys) e
   where
-    go : (x : Answered) → ((a : Answer) (ys : List Answer) → cards_from n (suc place) a.number (drop 24 bytes) ≡ answers ys → length ys ≡ n) → then x place (λ k. cards_from n (suc place) k (drop 24 bytes)) ≡ answers xs → length xs ≡ suc n
-    go (answered.Is a) ih q =
+    go : (x : Result Answer Refusal) → ((a : Answer) (ys : List Answer) → cards_from n (suc place) a.number (drop 24 bytes) ≡ answers ys → length ys ≡ n) → then x place (λ k. cards_from n (suc place) k (drop 24 bytes)) ≡ answers xs → length xs ≡ suc n
+    go (Ok a) ih q =
         let j = joined_is a (cards_from n (suc place) a.number (drop 24 bytes)) q in
         sym (ap length j.2) ∙ ap suc (ih a j.0 j.1)
-    go (answered.Refused r) ih q = let z : ◌≡◌ {A = ℕ} 0 1 = cc in clash z
+    go (Err r) ih q = let z : ◌≡◌ {A = ℕ} 0 1 = cc in clash z
 
 pub bytes_length : (xs : List Answer) → length (bytes_of xs) ≡ 16 * length xs
 unfolding bytes_of
@@ -52,22 +49,22 @@ pub behind_header : (bytes : List ℕ) → take (length bytes - 7) (drop 7 bytes
 behind_header bytes = take_all (length bytes - 7) (drop 7 bytes) (omega (arith, length-drop 7 bytes))
 
 -- the whole call, from its header on
-module _ (bytes : List ℕ) (room : ℕ) (h : Header) (e : h ≡ header_of bytes room) where
-  pub header_refused : (r s : Refusal) → h ≡ header.Refused r → s ≡ header_refusal h → outcome.Refused s 0 ≡ outcome_of bytes room
+module _ (bytes : List ℕ) (room : ℕ) (h : Result ℕ Refusal) (e : h ≡ header_of bytes room) where
+  pub header_refused : (r s : Refusal) → h ≡ Err r → s ≡ header_refusal h → Err (refused_at s 0) ≡ outcome_of bytes room
   unfolding outcome_of
   header_refused r s q g =
-      ap (λ y. outcome.Refused y 0) (g ∙ ap header_refusal q) ∙ ap (λ y. after_header y bytes) (sym q ∙ e)
+      ap (λ y. Err (refused_at y 0)) (g ∙ ap header_refusal q) ∙ ap (λ y. after_header y bytes) (sym q ∙ e)
 
-  pub header_good : (n : ℕ) (r : Outcome) → h ≡ header.Good n → r ≡ result_of (cards_from n 0 0 (take (length bytes - 7) (drop 7 bytes))) → r ≡ outcome_of bytes room
+  pub header_good : (n : ℕ) (r : Result Leaders (SentBack ℕ)) → h ≡ Ok n → r ≡ result_of (cards_from n 0 0 (take (length bytes - 7) (drop 7 bytes))) → r ≡ outcome_of bytes room
   unfolding outcome_of cards_of
   header_good n r q g =
       g ∙ (ap (λ y. result_of (cards_from n 0 0 y)) (behind_header bytes) ∙ ap (λ y. after_header y bytes) (sym q ∙ e))
 
-  pub header_fitting : (n : ℕ) → HeaderFits bytes room h → h ≡ header.Good n → Fitting bytes room n
+  pub header_fitting : (n : ℕ) → HeaderFits bytes room h → h ≡ Ok n → Fitting bytes room n
   header_fitting n f q = subst (HeaderFits bytes room) q f
 
 -- what a good header says of the room: for the calls behind it
-module _ (bytes : List ℕ) (room : ℕ) (h : Header) (e : h ≡ header_of bytes room) (f : HeaderFits bytes room h) (n : ℕ) (q : h ≡ header.Good n) where
+module _ (bytes : List ℕ) (room : ℕ) (h : Result ℕ Refusal) (e : h ≡ header_of bytes room) (f : HeaderFits bytes room h) (n : ℕ) (q : h ≡ Ok n) where
   pub good_header : 7 ≤ length bytes
   good_header = let fits = header_fitting bytes room h e n f q in omega arith
 
@@ -85,12 +82,12 @@ module _ (bytes : List ℕ) (room : ℕ) (h : Header) (e : h ≡ header_of bytes
 pub ruleset good = (good_header, good_count, good_cards, good_answers)
 
 -- and what it leaves in the buffer
-module _ (bytes out : List ℕ) (h : Header) (e : h ≡ header_of bytes (length out)) where
-  pub header_kept : (r : Refusal) → h ≡ header.Refused r → out ≡ buffer_of bytes out
+module _ (bytes out : List ℕ) (h : Result ℕ Refusal) (e : h ≡ header_of bytes (length out)) where
+  pub header_kept : (r : Refusal) → h ≡ Err r → out ≡ buffer_of bytes out
   unfolding buffer_of
   header_kept r q = ap (λ y. filled_after y bytes out) (sym q ∙ e)
 
-  pub header_filled : (n : ℕ) (after : List ℕ) → h ≡ header.Good n → after ≡ filled_with (cards_from n 0 0 (take (length bytes - 7) (drop 7 bytes))) out → after ≡ buffer_of bytes out
+  pub header_filled : (n : ℕ) (after : List ℕ) → h ≡ Ok n → after ≡ filled_with (cards_from n 0 0 (take (length bytes - 7) (drop 7 bytes))) out → after ≡ buffer_of bytes out
   unfolding buffer_of cards_of
   header_filled n after q g =
       g ∙ (ap (λ y. filled_with (cards_from n 0 0 y) out) (behind_header bytes) ∙ ap (λ y. filled_after y bytes out) (sym q ∙ e))

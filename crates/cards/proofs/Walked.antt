@@ -1,29 +1,26 @@
 -- The walk of the code (`walk/specs/Walk.antt`) comes to what a register is (`Register.antt`).
 -- Assumes nothing.
-use Rattle.std.specs.Prelude.{ℕ, zero, suc, ◌+◌, ◌≡◌, refl, List, [], ◌∷◌, ◌++◌, length, take, drop}
+use Rattle.std.specs.Prelude.{ℕ, zero, suc, ◌+◌, ◌≡◌, refl, List, [], ◌∷◌, ◌++◌, length, take, drop, Result, Ok, Err}
+use Rattle.refusals.specs.declared.SentBack.{SentBack}
+use Rattle.refusals.specs.Numbers.{refused_at}
 use Rattle.std.proofs.Common.{arith, add-zero, ◌∙◌, ap, sym, length-append}
 use Rattle.search.specs.Laws.{clash}
 use Rattle.refusals.specs.declared.Refusal.{Refusal}
 use Rattle.card.specs.declared.Answer.{Answer}
-use Rattle.card.specs.declared.Answered.{Answered}
-use Rattle.card.specs.declared.Answered.TheVariants as answered
 use Rattle.card.specs.Answers.{answer_of}
 use Rattle.farthest.specs.Farthest.{leaders_of}
-use Rattle.walk.specs.declared.Outcome.TheVariants as outcome
 use Rattle.running.specs.declared.Running.{Running}
 use Rattle.running.specs.Running.{before_cards, after_card, step_to, step_of, running_after}
 use Rattle.running.proofs.Laws.{running_leaders}
-use Rattle.walk.specs.declared.Walked.{Walked}
-use Rattle.walk.specs.declared.Walked.TheVariants as walked
 use Rattle.walk.specs.declared.Writes.{Writes}
 use Rattle.walk.specs.Walk.{text_of, texts_of, go_on, walk_from, write_on, text_from, end_of}
 use Rattle.cards.specs.Register.{Cards, answers, sent_back, joined, then, cards_from, result_of}
 use Rattle.cards.proofs.Laws.{joined_is}
 
 -- what a walk from running values and a position on ends with, where its cards come to this
-abbrev walked_as : Writes → Running → ℕ → Cards → Walked
-walked_as w s at (answers xs) = walked.On (running_after s xs) (at + length (texts_of w xs))
-walked_as w s at (sent_back r place) = walked.Refused r place
+abbrev walked_as : Writes → Running → ℕ → Cards → Result (Running × ℕ) (SentBack ℕ)
+walked_as w s at (answers xs) = Ok (running_after s xs, at + length (texts_of w xs))
+walked_as w s at (sent_back r place) = Err (refused_at r place)
 
 walked_joined : (w : Writes) (s : Running) (at : ℕ) (a : Answer) (c : Cards) → walked_as w (after_card s a) (at + length (text_of w a)) c ≡ walked_as w s at (joined a c)
 unfolding running_after texts_of
@@ -36,10 +33,10 @@ walk_is w zero s at bytes = ap (walked.On s) (sym (add-zero at))
 walk_is w (suc n) s at bytes =
     go (answer_of (take 24 bytes) s.last) (λ a. walk_is w n (after_card s a) (at + length (text_of w a)) (drop 24 bytes))
   where
-    go : (x : Answered) → ((a : Answer) → walk_from w n (after_card s a) (at + length (text_of w a)) (drop 24 bytes) ≡ walked_as w (after_card s a) (at + length (text_of w a)) (cards_from n (suc s.place) a.number (drop 24 bytes)))
+    go : (x : Result Answer Refusal) → ((a : Answer) → walk_from w n (after_card s a) (at + length (text_of w a)) (drop 24 bytes) ≡ walked_as w (after_card s a) (at + length (text_of w a)) (cards_from n (suc s.place) a.number (drop 24 bytes)))
         → go_on (step_to x s) (λ t a. walk_from w n t (at + length (text_of w a)) (drop 24 bytes)) ≡ walked_as w s at (then x s.place (λ k. cards_from n (suc s.place) k (drop 24 bytes)))
-    go (answered.Is a) ih = ih a ∙ walked_joined w s at a (cards_from n (suc s.place) a.number (drop 24 bytes))
-    go (answered.Refused r) ih = refl
+    go (Ok a) ih = ih a ∙ walked_joined w s at a (cards_from n (suc s.place) a.number (drop 24 bytes))
+    go (Err r) ih = refl
 
 -- of cards that are all answered, the texts are written one after the other
 pub text_is : (w : Writes) (n : ℕ) (s : Running) (bytes : List ℕ) (xs : List Answer) → cards_from n s.place s.last bytes ≡ answers xs → text_from w n s bytes ≡ texts_of w xs
@@ -49,12 +46,12 @@ text_is w zero s bytes (x ∷ xs) e = let z : ◌≡◌ {A = ℕ} 0 1 = cc in cl
 text_is w (suc n) s bytes xs e =
     go (answer_of (take 24 bytes) s.last) (λ a ys. text_is w n (after_card s a) (drop 24 bytes) ys) e
   where
-    go : (x : Answered) → ((a : Answer) (ys : List Answer) → cards_from n (suc s.place) a.number (drop 24 bytes) ≡ answers ys → text_from w n (after_card s a) (drop 24 bytes) ≡ texts_of w ys)
+    go : (x : Result Answer Refusal) → ((a : Answer) (ys : List Answer) → cards_from n (suc s.place) a.number (drop 24 bytes) ≡ answers ys → text_from w n (after_card s a) (drop 24 bytes) ≡ texts_of w ys)
         → then x s.place (λ k. cards_from n (suc s.place) k (drop 24 bytes)) ≡ answers xs → write_on (step_to x s) (λ t a. text_of w a ++ text_from w n t (drop 24 bytes)) ≡ texts_of w xs
-    go (answered.Is a) ih q =
+    go (Ok a) ih q =
         let j = joined_is a (cards_from n (suc s.place) a.number (drop 24 bytes)) q in
         ap (λ text. text_of w a ++ text) (ih a j.0 j.1) ∙ ap (texts_of w) j.2
-    go (answered.Refused r) ih q = let z : ◌≡◌ {A = ℕ} 0 1 = cc in clash z
+    go (Err r) ih q = let z : ◌≡◌ {A = ℕ} 0 1 = cc in clash z
 
 -- What callers use of a walk: where it came to its end, every card of it is answered, the running values are those after the answers,
 -- and what is written are their texts, of this size;
@@ -66,20 +63,20 @@ pub record Passed (w : Writes) (n : ℕ) (s : Running) (bytes : List ℕ) (t : R
   pub sized : size ≡ length (texts_of w list)
 
 module _ (w : Writes) (n : ℕ) (s : Running) (bytes : List ℕ) where
-  pub passed : (t : Running) (size : ℕ) → walk_from w n s 0 bytes ≡ walked.On t size → Passed w n s bytes t size
+  pub passed : (t : Running) (size : ℕ) → walk_from w n s 0 bytes ≡ Ok (t, size) → Passed w n s bytes t size
   passed t size e = go (cards_from n s.place s.last bytes) refl (sym (walk_is w n s 0 bytes) ∙ e)
     where
-      go : (c : Cards) → cards_from n s.place s.last bytes ≡ c → walked_as w s 0 c ≡ walked.On t size → Passed w n s bytes t size
+      go : (c : Cards) → cards_from n s.place s.last bytes ≡ c → walked_as w s 0 c ≡ Ok (t, size) → Passed w n s bytes t size
       go (answers xs) q u =
           let z : 0 + length (texts_of w xs) ≡ size = cc in
           record { list = xs; cards = q; running = cc; text = text_is w n s bytes xs q; sized = omega arith }
       go (sent_back r place) q u = clash (cc)
 
   -- and where it stopped, the cards are sent back there
-  pub stopped : (r : Refusal) (place : ℕ) → walk_from w n s 0 bytes ≡ walked.Refused r place → cards_from n s.place s.last bytes ≡ sent_back r place
+  pub stopped : (r : Refusal) (place : ℕ) → walk_from w n s 0 bytes ≡ Err (refused_at r place) → cards_from n s.place s.last bytes ≡ sent_back r place
   stopped r place e = go (cards_from n s.place s.last bytes) (sym (walk_is w n s 0 bytes) ∙ e)
     where
-      go : (c : Cards) → walked_as w s 0 c ≡ walked.Refused r place → c ≡ sent_back r place
+      go : (c : Cards) → walked_as w s 0 c ≡ Err (refused_at r place) → c ≡ sent_back r place
       go (answers xs) u = clash (cc)
       go (sent_back t k) u = cc
 
@@ -94,5 +91,5 @@ unfolding leaders_of
 end_result w n bytes = ap end_of (walk_is w n before_cards 0 bytes) ∙ go (cards_from n 0 0 bytes)
   where
     go : (c : Cards) → end_of (walked_as w before_cards 0 c) ≡ result_of c
-    go (answers xs) = ap outcome.Accepted (running_leaders before_cards xs)
+    go (answers xs) = ap Ok (running_leaders before_cards xs)
     go (sent_back r place) = refl

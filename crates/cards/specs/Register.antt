@@ -1,19 +1,16 @@
 -- What a register is: its cards in turn, what the call answers, and what it leaves in the answer buffer. The contracts of the
 -- entry points cite this file; how the code walks over the cards stands in `walk/specs/Walk.antt`.
 -- Assumes nothing.
-use Rattle.std.specs.Prelude.{ℕ, zero, suc, ◌+◌, List, [], ◌∷◌, ◌++◌, length, take, drop}
+use Rattle.std.specs.Prelude.{ℕ, zero, suc, ◌+◌, List, [], ◌∷◌, ◌++◌, length, take, drop, Result, Ok, Err}
+use Rattle.farthest.specs.declared.Leaders.{Leaders}
+use Rattle.refusals.specs.declared.SentBack.{SentBack}
+use Rattle.refusals.specs.Numbers.{refused_at}
 use Rattle.refusals.specs.declared.Refusal.{Refusal}
 use Rattle.card.specs.declared.Answer.{Answer}
-use Rattle.card.specs.declared.Answered.{Answered}
-use Rattle.card.specs.declared.Answered.TheVariants as answered
 use Rattle.card.specs.Answers.{answer_of}
 use Rattle.farthest.specs.Farthest.{leaders_of}
 use Rattle.encode.specs.Bytes.{answer_bytes}
-use Rattle.header.specs.declared.Header.{Header}
-use Rattle.header.specs.declared.Header.TheVariants as header
 use Rattle.header.specs.Header.{header_size, card_size, header_of}
-use Rattle.walk.specs.declared.Outcome.{Outcome}
-use Rattle.walk.specs.declared.Outcome.TheVariants as outcome
 
 -- what the cards of a register come to: every card's answer, or the first refusal and the place of its card
 pub data Cards : Type 0 where
@@ -26,9 +23,9 @@ joined a (answers rest) = answers (a ∷ rest)
 joined a (sent_back r place) = sent_back r place
 
 -- a card that is answered goes on to the next one, which must have a higher number; one that is not ends it
-abbrev pub then : Answered → ℕ → (ℕ → Cards) → Cards
-then (answered.Is a) place further = joined a (further a.number)
-then (answered.Refused r) place further = sent_back r place
+abbrev pub then : Result Answer Refusal → ℕ → (ℕ → Cards) → Cards
+then (Ok a) place further = joined a (further a.number)
+then (Err r) place further = sent_back r place
 
 -- "then 5 to 11 on each card in turn": the cards that are left, from the place reached, after the last card's number
 unfoldable pub cards_from : ℕ → ℕ → ℕ → List ℕ → Cards
@@ -42,17 +39,17 @@ cards_of count bytes = cards_from count 0 0 (drop header_size bytes)
 
 -- "A refusal carries its number and the card's place, counted from 0"; "An accepted call's result gives both classes'
 -- farthest"
-abbrev pub result_of : Cards → Outcome
-result_of (answers xs) = outcome.Accepted (leaders_of xs)
-result_of (sent_back r place) = outcome.Refused r place
+abbrev pub result_of : Cards → Result Leaders (SentBack ℕ)
+result_of (answers xs) = Ok (leaders_of xs)
+result_of (sent_back r place) = Err (refused_at r place)
 
 -- "(0 for 1 to 4, and wherever no card is meant)"
-abbrev pub after_header : Header → List ℕ → Outcome
-after_header (header.Good count) bytes = result_of (cards_of count bytes)
-after_header (header.Refused r) bytes = outcome.Refused r 0
+abbrev pub after_header : Result ℕ Refusal → List ℕ → Result Leaders (SentBack ℕ)
+after_header (Ok count) bytes = result_of (cards_of count bytes)
+after_header (Err r) bytes = Err (refused_at r 0)
 
 -- what the call answers for these bytes and an answer buffer of this length
-unfoldable pub outcome_of : List ℕ → ℕ → Outcome
+unfoldable pub outcome_of : List ℕ → ℕ → Result Leaders (SentBack ℕ)
 outcome_of bytes room = after_header (header_of bytes room) bytes
 
 -- "Sixteen bytes a card"
@@ -65,9 +62,9 @@ abbrev pub filled_with : Cards → List ℕ → List ℕ
 filled_with (answers xs) out = bytes_of xs ++ drop (length (bytes_of xs)) out
 filled_with (sent_back r place) out = out
 
-abbrev pub filled_after : Header → List ℕ → List ℕ → List ℕ
-filled_after (header.Good count) bytes out = filled_with (cards_of count bytes) out
-filled_after (header.Refused r) bytes out = out
+abbrev pub filled_after : Result ℕ Refusal → List ℕ → List ℕ → List ℕ
+filled_after (Ok count) bytes out = filled_with (cards_of count bytes) out
+filled_after (Err r) bytes out = out
 
 -- what the call leaves in the answer buffer
 unfoldable pub buffer_of : List ℕ → List ℕ → List ℕ

@@ -4,28 +4,29 @@
 ghost use Rattle.std.specs.Prelude.{◌≡◌, ◌*◌, ◌≤◌, length};
 ghost use Rattle.cards.specs.Register.{cards_from, result_of, filled_with};
 
-use walk::{Outcome, Walked, Writes};
+use farthest::Leaders;
+use refusals::SentBack;
+use walk::Writes;
 
 // The cards are walked once, into a buffer that nobody but the caller sees, and what it holds is copied where no card was refused: so
 // every card is checked before a byte of the lent buffer is written.
-pub fn answer_through(cards: &[u8], count: usize, scratch: &mut [u8], answers: &mut [u8]) -> Outcome
+pub fn answer_through(
+    cards: &[u8],
+    count: usize,
+    scratch: &mut [u8],
+    answers: &mut [u8],
+) -> Result<Leaders, SentBack<u32>>
     requires { (count ≤ 2000) × (24 * count ≤ length cards.now) × (16 * count ≤ length scratch.old) × (16 * count ≤ length answers.old) }
     ensures value { result ≡ result_of (cards_from count 0 0 cards.now) }
     ensures answers_after { answers.new ≡ filled_with (cards_from count 0 0 cards.now) answers.old }
 {
-    let walked = walk::through(cards, count, Writes::Answers, scratch);
-    match walked {
-        Walked::On(running, size) => {
-            let leaders = running.leaders;
-            buffer::put_text(answers, 0, &scratch[..size]);
-            Outcome::Accepted(leaders)
-        }
-        Walked::Refused(refusal, place) => Outcome::Refused(refusal, place),
-    }
+    let (running, size) = walk::through(cards, count, Writes::Answers, scratch)?;
+    buffer::put_text(answers, 0, &scratch[..size]);
+    Ok(running.leaders)
 }
 
 // One card needs no such buffer: the walk refuses it before it writes a byte.
-pub fn answer_one(cards: &[u8], count: usize, answers: &mut [u8]) -> Outcome
+pub fn answer_one(cards: &[u8], count: usize, answers: &mut [u8]) -> Result<Leaders, SentBack<u32>>
     requires { (count ≤ 1) × (24 * count ≤ length cards.now) × (16 * count ≤ length answers.old) }
     ensures value { result ≡ result_of (cards_from count 0 0 cards.now) }
     ensures answers_after { answers.new ≡ filled_with (cards_from count 0 0 cards.now) answers.old }

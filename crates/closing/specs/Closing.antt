@@ -1,15 +1,14 @@
 -- The lines of a listing that are no card's, as text: lists of bytes in ASCII, as a card's line is (`lines/specs/Lines.antt`).
 -- Assumes nothing.
-use Rattle.std.specs.Prelude.{ℕ, Bool, true, false, List, [], ◌∷◌, ◌++◌}
+use Rattle.std.specs.Prelude.{ℕ, Bool, true, false, List, [], ◌∷◌, ◌++◌, Option, Some, None}
+use Rattle.farthest.specs.declared.Leader.{Leader}
 use Rattle.decimal.specs.Decimal.{digits}
-use Rattle.farthest.specs.declared.Farthest.{Farthest}
-use Rattle.farthest.specs.declared.Farthest.TheVariants as farthest
 use Rattle.lines.specs.Lines.{spaced, ended, miles_text}
 
 -- "then T and F lines with card and miles or `none`"; the letter is the line's first byte
-unfoldable pub leader_line : ℕ → Farthest → List ℕ
-leader_line letter farthest.None = letter ∷ 32 ∷ 110 ∷ 111 ∷ 110 ∷ 101 ∷ 10 ∷ []
-leader_line letter (farthest.Card number d) = letter ∷ 32 ∷ (spaced (digits number) ++ miles_text d.0)
+unfoldable pub leader_line : ℕ → Option Leader → List ℕ
+leader_line letter None = letter ∷ 32 ∷ 110 ∷ 111 ∷ 110 ∷ 101 ∷ 10 ∷ []
+leader_line letter (Some lead) = letter ∷ 32 ∷ (spaced (digits lead.number) ++ miles_text lead.distance.0)
 
 -- "a refusal prints `refused N at K`"
 unfoldable pub refused_line : ℕ → ℕ → List ℕ

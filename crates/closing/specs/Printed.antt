@@ -1,17 +1,17 @@
 -- The lines that document 01 prints behind its three cards, and one of each other kind, byte by byte.
 -- Assumes nothing.
-use Rattle.std.specs.Prelude.{ℕ, ◌≡◌, refl, List, [], ◌∷◌}
+use Rattle.std.specs.Prelude.{ℕ, ◌≡◌, refl, List, [], ◌∷◌, Some, None}
+use Rattle.farthest.specs.Farthest.{leader}
 use Rattle.decimal.specs.Decimal.{padded, digits_within, digits, fixed}
-use Rattle.farthest.specs.declared.Farthest.TheVariants as farthest
 use Rattle.lines.specs.Lines.{miles_text}
 use Rattle.closing.specs.Closing.{leader_line, refused_line, too_long}
 
 -- what the definitions give
 abbrev lines : List (List ℕ)
 lines =
-    (leader_line 84 (farthest.Card 12 (record { 0 = 180 }))) ∷
-    (leader_line 70 (farthest.Card 13 (record { 0 = 20 }))) ∷
-    (leader_line 84 farthest.None) ∷
+    (leader_line 84 (Some (leader 12 (record { 0 = 180 })))) ∷
+    (leader_line 70 (Some (leader 13 (record { 0 = 20 })))) ∷
+    (leader_line 84 None) ∷
     (refused_line 10 0) ∷
     too_long ∷ []
 

@@ -6,32 +6,31 @@ ghost use Rattle.std.specs.Prelude.{◌+◌, ◌≤◌, length};
 ghost use Rattle.buffer.specs.Wrote.{Wrote};
 ghost use Rattle.closing.specs.Closing.{leader_line, refused_line, too_long};
 
-use farthest::Farthest;
-use units::Miles;
+use farthest::Leader;
 
 // The line of a class that has a card.
-fn put_leading(out: &mut [u8], at: usize, letter: u8, number: u32, distance: Miles) -> usize
+fn put_leading(out: &mut [u8], at: usize, letter: u8, leader: Leader) -> usize
     requires { at + 64 ≤ length out.old }
-    ensures wrote { Wrote out.old out.new at result (leader_line letter (Farthest.Card number distance)) }
+    ensures wrote { Wrote out.old out.new at result (leader_line letter (Some leader)) }
     ensures upper_bound { result ≤ at + 64 }
 {
     let second = buffer::put_byte(out, at, letter);
     let third = buffer::put_byte(out, second, b' ');
-    let last = decimal::put_number_then(out, third, number as u64, b' ');
-    lines::put_miles(out, last, distance)
+    let last = decimal::put_number_then(out, third, leader.number as u64, b' ');
+    lines::put_miles(out, last, leader.distance)
 }
 
 // The line of a class, which begins with the class's letter.
-pub fn put_leader(out: &mut [u8], at: usize, letter: u8, leader: Farthest) -> usize
+pub fn put_leader(out: &mut [u8], at: usize, letter: u8, leader: Option<Leader>) -> usize
     requires { at + 64 ≤ length out.old }
     ensures wrote { Wrote out.old out.new at result (leader_line letter leader) }
     ensures upper_bound { result ≤ at + 64 }
 {
-    let Farthest::Card(number, distance) = leader else {
+    let Some(leading) = leader else {
         let word = buffer::put_byte(out, at, letter);
         return buffer::put_text(out, word, b" none\n");
     };
-    put_leading(out, at, letter, number, distance)
+    put_leading(out, at, letter, leading)
 }
 
 // The one line of a register that is sent back.

@@ -1,5 +1,6 @@
 -- A field at a place is the first of the fields from there on.
 -- Assumes nothing.
+use Rattle.std.specs.Prelude.{Option, Some, None}
 use Prim.Native.Nat.{ℕ, suc, ◌+◌, ◌≤◌, ◌<◌}
 use native.Mathlib.Omega.{arith}
 use Rattle.std.specs.Prelude.{◌≡◌, refl, Bool, true, false, eqb}
@@ -12,12 +13,7 @@ use Rattle.pieces.specs.Pieces.{in_front, pieces, before}
 use Rattle.pieces.proofs.Laws.{pieces_more, pieces_last}
 use Rattle.fields.specs.declared.Fields.{Fields}
 use Rattle.numerals.specs.declared.Form.{Form}
-use Rattle.numerals.specs.declared.Number.{Number}
-use Rattle.numerals.specs.declared.Number.TheVariants as number
 use Rattle.numerals.specs.Numerals.{value_in}
-use Rattle.comma.specs.declared.Taken.TheVariants as taken
-use Rattle.comma.specs.declared.Line.{Line}
-use Rattle.comma.specs.declared.Line.TheVariants as line
 use Rattle.comma.specs.Line.{fields_in, and, next, remark}
 use Rattle.comma.specs.Stages.{placed, end_at, taken_at}
 
@@ -33,10 +29,10 @@ some_field (b ∷ text) = go (eqb b 44) (pieces 44 ([] ∷ []) text)
     go false (p ∷ ps) = (b ∷ p, ps, refl)
 
 -- so a field with others behind it is not the last
-next_some : (form : Form) (field text : List ℕ) (further : ℕ → List (List ℕ) → Line) → next form (field ∷ fields_in text) further ≡ and (value_in form field) (λ n. further n (fields_in text))
+next_some : (form : Form) (field text : List ℕ) (further : ℕ → List (List ℕ) → Option Fields) → next form (field ∷ fields_in text) further ≡ and (value_in form field) (λ n. further n (fields_in text))
 next_some form field text further = rw (some_field text).2
 
-remark_some : (field text : List ℕ) (f : Fields) → remark (field ∷ fields_in text) f ≡ line.Malformed
+remark_some : (field text : List ℕ) (f : Fields) → remark (field ∷ fields_in text) f ≡ None
 remark_some field text f = rw (some_field text).2
 
 module _ (text : List ℕ) (at : ℕ) where
@@ -58,20 +54,20 @@ module _ (text : List ℕ) (at : ℕ) where
   unfolding taken_at
   taken_ended form h = rw (lt-ltb (end_at text at) (length text) h, taken_at)
 
-  pub taken_unended : (form : Form) → length text ≤ end_at text at → taken_at form text at ≡ taken.Malformed
+  pub taken_unended : (form : Form) → length text ≤ end_at text at → taken_at form text at ≡ None
   unfolding taken_at
   taken_unended form h = rw (le-ltb (end_at text at) (length text) h, taken_at)
 
   -- a field that is taken
-  pub taken_is : (form : Form) {n behind : ℕ} → taken_at form text at ≡ taken.Is n behind → (further : ℕ → List (List ℕ) → Line) → next form (fields_in (drop at text)) further ≡ further n (fields_in (drop behind text))
+  pub taken_is : (form : Form) {n behind : ℕ} → taken_at form text at ≡ Some (n, behind) → (further : ℕ → List (List ℕ) → Option Fields) → next form (fields_in (drop at text)) further ≡ further n (fields_in (drop behind text))
   taken_is form {n} {behind} e further = ⊎_elim ended unended (lt_or_ge (end_at text at) (length text))
     where
-      valued : (v : Number) → placed v (end_at text at + 1) ≡ taken.Is n behind → and v (λ m. further m (fields_in (drop (end_at text at + 1) text))) ≡ further n (fields_in (drop behind text))
-      valued (number.Is m) q =
+      valued : (v : Option ℕ) → placed v (end_at text at + 1) ≡ Some (n, behind) → and v (λ m. further m (fields_in (drop (end_at text at + 1) text))) ≡ further n (fields_in (drop behind text))
+      valued (Some m) q =
           let same : m ≡ n = cc in
           let place : end_at text at + 1 ≡ behind = cc in
           ap (λ (k : ℕ). further k (fields_in (drop (end_at text at + 1) text))) same ∙ ap (λ (k : ℕ). further n (fields_in (drop k text))) place
-      valued number.Malformed q = let z : ◌≡◌ {A = ℕ} 0 1 = cc in clash z
+      valued None q = let z : ◌≡◌ {A = ℕ} 0 1 = cc in clash z
 
       ended : end_at text at < length text → next form (fields_in (drop at text)) further ≡ further n (fields_in (drop behind text))
       ended h =
@@ -83,26 +79,26 @@ module _ (text : List ℕ) (at : ℕ) where
       unended h = let q = sym (taken_unended form h) ∙ e in let z : ◌≡◌ {A = ℕ} 0 1 = cc in clash z
 
   -- a field that is not well formed, or that is the last
-  pub taken_not : (form : Form) → taken_at form text at ≡ taken.Malformed → (further : ℕ → List (List ℕ) → Line) → next form (fields_in (drop at text)) further ≡ line.Malformed
+  pub taken_not : (form : Form) → taken_at form text at ≡ None → (further : ℕ → List (List ℕ) → Option Fields) → next form (fields_in (drop at text)) further ≡ None
   taken_not form e further = ⊎_elim ended unended (lt_or_ge (end_at text at) (length text))
     where
-      valued : (v : Number) → placed v (end_at text at + 1) ≡ taken.Malformed → and v (λ m. further m (fields_in (drop (end_at text at + 1) text))) ≡ line.Malformed
-      valued (number.Is m) q = let z : ◌≡◌ {A = ℕ} 0 1 = cc in clash z
-      valued number.Malformed q = refl
+      valued : (v : Option ℕ) → placed v (end_at text at + 1) ≡ None → and v (λ m. further m (fields_in (drop (end_at text at + 1) text))) ≡ None
+      valued (Some m) q = let z : ◌≡◌ {A = ℕ} 0 1 = cc in clash z
+      valued None q = refl
 
-      ended : end_at text at < length text → next form (fields_in (drop at text)) further ≡ line.Malformed
+      ended : end_at text at < length text → next form (fields_in (drop at text)) further ≡ None
       ended h =
           ap (λ (fs : List (List ℕ)). next form fs further) (fields_more h)
           ∙ next_some form (before 44 (drop at text)) (drop (end_at text at + 1) text) further
           ∙ valued (value_in form (before 44 (drop at text))) (sym (taken_ended form h) ∙ e)
 
-      unended : length text ≤ end_at text at → next form (fields_in (drop at text)) further ≡ line.Malformed
+      unended : length text ≤ end_at text at → next form (fields_in (drop at text)) further ≡ None
       unended h = ap (λ (fs : List (List ℕ)). next form fs further) (fields_last h)
 
   -- the remark is the last field, or the line has too many
-  pub remark_is : (f : Fields) → length text ≤ end_at text at → remark (fields_in (drop at text)) f ≡ line.Card f
+  pub remark_is : (f : Fields) → length text ≤ end_at text at → remark (fields_in (drop at text)) f ≡ Some f
   remark_is f h = ap (λ (fs : List (List ℕ)). remark fs f) (fields_last h)
 
-  pub remark_not : (f : Fields) → end_at text at < length text → remark (fields_in (drop at text)) f ≡ line.Malformed
+  pub remark_not : (f : Fields) → end_at text at < length text → remark (fields_in (drop at text)) f ≡ None
   remark_not f h =
       ap (λ (fs : List (List ℕ)). remark fs f) (fields_more h) ∙ remark_some (before 44 (drop at text)) (drop (end_at text at + 1) text) f

@@ -1,7 +1,7 @@
 -- The strict text of some cards is read as those cards, so that no two lists of cards have the same text; and whatever a text
 -- is read as fits the bytes of a card.
 -- Assumes nothing.
-use Rattle.std.specs.Prelude.{ℕ, suc, ◌+◌, ◌-◌, ◌/◌, ◌%◌, ◌^◌, ◌≤◌, ◌<◌, ◌≡◌, refl, List, [], ◌∷◌, ◌++◌, map, Bool, true, false, ◌⊎◌, ltb, eqb, length}
+use Rattle.std.specs.Prelude.{ℕ, suc, ◌+◌, ◌-◌, ◌/◌, ◌%◌, ◌^◌, ◌≤◌, ◌<◌, ◌≡◌, refl, List, [], ◌∷◌, ◌++◌, map, Bool, true, false, ◌⊎◌, ltb, eqb, length, Option, Some, None}
 use Rattle.std.proofs.Common.{arith, sym, ap, subst, ◌∙◌, append-nil, inl, inr, length-append, lt-ltb, le-ltb, eqb-true}
 use Rattle.std.proofs.lemmas.Bool.{eqb-false}
 use Rattle.search.specs.Laws.{lt_or_ge}
@@ -12,12 +12,8 @@ use Rattle.pieces.proofs.Laws.{pieces_closed}
 use Rattle.fields.specs.declared.Fields.{Fields}
 use Rattle.numerals.specs.declared.Form.{Form}
 use Rattle.numerals.specs.declared.Form.TheVariants as form
-use Rattle.numerals.specs.declared.Number.{Number}
-use Rattle.numerals.specs.declared.Number.TheVariants as number
 use Rattle.numerals.specs.Numerals.{read_on, cas_in, heat_in, value_in, most_of, Within}
 use Rattle.numerals.proofs.Laws.{within, digits_are, value_written, digits_without, decimal_written, grouped, groups, heat_plus, heat_minus}
-use Rattle.comma.specs.declared.Line.{Line}
-use Rattle.comma.specs.declared.Line.TheVariants as line
 use Rattle.comma.specs.Line.{fields_in, and, next, remark, of_one_byte, of_two_bytes, of_four_bytes, tenths_form, lasts_in, amounts_in, codes_in, longest_line, line_of}
 use Rattle.comma.specs.Text.{lines_of, Cards, cards, bad, then, cards_from, cards_in}
 use Rattle.comma.specs.Strict.{cas_text, heat_text, tenths_text, field_texts, strict_line, strict_lines}
@@ -138,27 +134,27 @@ module _ (x : ℕ) (low : x < 45) where
 -- ---- each text is read as its number
 
 -- "CAS number with hyphens"
-pub cas_written : (cas : ℕ) → cas < 2 ^ 32 → value_in form.Cas (cas_text cas) ≡ number.Is cas
+pub cas_written : (cas : ℕ) → cas < 2 ^ 32 → value_in form.Cas (cas_text cas) ≡ Some cas
 cas_written cas h =
     value_written form.Cas (cas_text cas) (cas_without 32 (omega arith) cas)
     ∙ cas_digits_lem cas
     ∙ digits_are 4_294_967_295 0 (cas_digits cas) (cas_all cas) (rw (cas_read cas) (omega arith))
-    ∙ ap number.Is (cas_read cas)
+    ∙ ap Some (cas_read cas)
 
 -- "temperature in tenths"
-pub heat_written : (heat : ℕ) → heat < 2 ^ 16 → value_in form.Temperature (heat_text heat) ≡ number.Is heat
+pub heat_written : (heat : ℕ) → heat < 2 ^ 16 → value_in form.Temperature (heat_text heat) ≡ Some heat
 heat_written heat h =
     value_written form.Temperature (heat_text heat) (heat_without 32 (omega arith) heat)
-    ∙ heat_cases (λ text. heat_in text ≡ number.Is heat) heat
+    ∙ heat_cases (λ text. heat_in text ≡ Some heat) heat
     (λ up. heat_plus heat (omega arith))
     (λ down.
     let back : 65_536 - (65_536 - heat) ≡ heat = omega arith in
-    heat_minus (65_536 - heat) (omega arith) (omega arith) ∙ ap number.Is back)
+    heat_minus (65_536 - heat) (omega arith) (omega arith) ∙ ap Some back)
 
 -- "Its concentration .. takes the temperature's place", in the form that the state gives
-pub tenths_written : (state heat : ℕ) → heat < 2 ^ 16 → value_in (tenths_form state) (tenths_text state heat) ≡ number.Is heat
+pub tenths_written : (state heat : ℕ) → heat < 2 ^ 16 → value_in (tenths_form state) (tenths_text state heat) ≡ Some heat
 tenths_written state heat h =
-    tenths_cases (λ form text. value_in form text ≡ number.Is heat) state heat
+    tenths_cases (λ form text. value_in form text ≡ Some heat) state heat
     (λ e. decimal_written 65_535 heat (omega arith))
     (λ n. heat_written heat h)
 
@@ -207,7 +203,7 @@ unfolding fields_in strict_line
 strict_fields f = pieces_closed 44 ([] ∷ []) (field_texts f) (texts_without 44 (omega arith) f)
 
 -- each of them is taken on
-texts_read : (f : Fields) → Fitting f → codes_in (field_texts f ++ ([] ∷ [])) ≡ line.Card f
+texts_read : (f : Fields) → Fitting f → codes_in (field_texts f ++ ([] ∷ [])) ≡ Some f
 unfolding field_texts codes_in amounts_in lasts_in
 texts_read f fits =
     rw (
@@ -224,7 +220,7 @@ texts_read f fits =
     )
 
 -- reading the strict line of a card gives the card
-pub line_written : (f : Fields) → Fitting f → line_of (strict_line f) ≡ line.Card f
+pub line_written : (f : Fields) → Fitting f → line_of (strict_line f) ≡ Some f
 unfolding line_of
 line_written f fits =
     rw (le-ltb longest_line (length (strict_line f)) (omega (arith, line_short f fits)), line_of)
@@ -270,24 +266,24 @@ strict_same xs ys fx fy e = cards_same (sym (text_written xs fx) ∙ ap cards_in
 -- ---- what is read fits the bytes of a card
 
 -- of a line, and of lines: by cases, so that what is read carries it along
-abbrev LineFits : Line → Type 0
-LineFits (line.Card f) = Fitting f
-LineFits line.Malformed = Unit {0}
+abbrev LineFits : Option Fields → Type 0
+LineFits (Some f) = Fitting f
+LineFits None = Unit {0}
 
 abbrev CardsFit : Cards → Type 0
 CardsFit (cards xs) = AllFitting xs
 CardsFit (bad k) = Unit {0}
 
 -- a number that is taken on is at most what its field may hold
-next_fits : (form : Form) (fields : List (List ℕ)) (further : ℕ → List (List ℕ) → Line)
+next_fits : (form : Form) (fields : List (List ℕ)) (further : ℕ → List (List ℕ) → Option Fields)
     → ((n : ℕ) (rest : List (List ℕ)) → n ≤ most_of form → LineFits (further n rest)) → LineFits (next form fields further)
 next_fits form [] further fits = tt
 next_fits form (field ∷ []) further fits = tt
 next_fits form (field ∷ other ∷ rest) further fits = go (value_in form field) (within form field)
   where
-    go : (n : Number) → Within (most_of form) n → LineFits (and n (λ k. further k (other ∷ rest)))
-    go (number.Is n) w = fits n (other ∷ rest) w
-    go number.Malformed w = tt
+    go : (n : Option ℕ) → Within (most_of form) n → LineFits (and n (λ k. further k (other ∷ rest)))
+    go (Some n) w = fits n (other ∷ rest) w
+    go None w = tt
 
 remark_fits : (fields : List (List ℕ)) (f : Fields) → Fitting f → LineFits (remark fields f)
 remark_fits [] f fits = tt
@@ -314,19 +310,19 @@ line_fits : (text : List ℕ) → LineFits (line_of text)
 unfolding line_of
 line_fits text = go (ltb longest_line (length text))
   where
-    go : (t : Bool) → LineFits (elim t as (λ _. Line) [ true ↦ line.Malformed | false ↦ codes_in (fields_in text) ])
+    go : (t : Bool) → LineFits (elim t as (λ _. Option Fields) [ true ↦ None | false ↦ codes_in (fields_in text) ])
     go true = tt
     go false = codes_fit (fields_in text)
 
 -- the card of a line fits
-pub line_fitting : (text : List ℕ) {f : Fields} → line_of text ≡ line.Card f → Fitting f
+pub line_fitting : (text : List ℕ) {f : Fields} → line_of text ≡ Some f → Fitting f
 line_fitting text e = subst LineFits e (line_fits text)
 
-then_fits : (l : Line) (k : ℕ) (further : Cards) → LineFits l → CardsFit further → CardsFit (then l k further)
-then_fits (line.Card f) k (cards xs) fits fit = (fits, fit)
-then_fits (line.Card f) k (bad j) fits fit = tt
-then_fits line.Malformed k (cards xs) fits fit = tt
-then_fits line.Malformed k (bad j) fits fit = tt
+then_fits : (l : Option Fields) (k : ℕ) (further : Cards) → LineFits l → CardsFit further → CardsFit (then l k further)
+then_fits (Some f) k (cards xs) fits fit = (fits, fit)
+then_fits (Some f) k (bad j) fits fit = tt
+then_fits None k (cards xs) fits fit = tt
+then_fits None k (bad j) fits fit = tt
 
 cards_fit : (k : ℕ) (lines : List (List ℕ)) → CardsFit (cards_from k lines)
 unfolding cards_from

@@ -1,6 +1,8 @@
 -- Lines and texts, good and bad, in tables: what the definitions make of each. The theorem is `examples`.
 -- Assumes nothing.
-use Rattle.std.specs.Prelude.{ℕ, ◌≡◌, refl, List, [], ◌∷◌, ◌++◌, map, replicate}
+use Rattle.std.specs.Prelude.{ℕ, ◌≡◌, refl, List, [], ◌∷◌, ◌++◌, map, replicate, Option, Some, None, Result, Ok, Err}
+use Rattle.refusals.specs.declared.SentBack.{SentBack}
+use Rattle.refusals.specs.Numbers.{refused_at}
 use Prim.Native.Char.{code}
 use Prim.Native.String.{String}
 use Rattle.pieces.specs.Pieces.{pieces, closed}
@@ -9,10 +11,6 @@ use Rattle.spaces.specs.Spaces.{skip, chop, bare}
 use Rattle.numerals.specs.Numerals.{read_on, number_in, hyphened, unhyphened, cas_in, heat_in, value_in}
 use Rattle.fields.specs.declared.Fields.{Fields}
 use Rattle.refusals.specs.declared.Refusal.TheVariants as refusal
-use Rattle.comma.specs.declared.Line.{Line}
-use Rattle.comma.specs.declared.Line.TheVariants as line
-use Rattle.comma.specs.declared.Converted.{Converted}
-use Rattle.comma.specs.declared.Converted.TheVariants as converted
 use Rattle.comma.specs.Line.{fields_in, tenths_form, lasts_in, amounts_in, codes_in, line_of}
 use Rattle.comma.specs.Text.{lines_of, Cards, cards, bad, cards_from, cards_in, bad_room, reading_of}
 use Rattle.comma.specs.Strict.{cas_text, heat_text, tenths_text, field_texts, strict_line}
@@ -43,11 +41,11 @@ pub record Example (A : Type 0) : Type 0 where
   pub bytes : List ℕ
   pub is : A
 
-abbrev reads : String → Fields → Example Line
-reads text f = record { bytes = ascii text; is = line.Card f }
+abbrev reads : String → Fields → Example (Option Fields)
+reads text f = record { bytes = ascii text; is = Some f }
 
-abbrev malformed : String → Example Line
-malformed text = record { bytes = ascii text; is = line.Malformed }
+abbrev malformed : String → Example (Option Fields)
+malformed text = record { bytes = ascii text; is = None }
 
 abbrev writes : String → Fields → Example Fields
 writes text f = record { bytes = ascii text; is = f }
@@ -57,7 +55,7 @@ writes text f = record { bytes = ascii text; is = f }
 chlorine : Fields
 chlorine = card 1 2 2 0 7_782_505 2_500 0 0 0 11
 
-pub lines : List (Example Line)
+pub lines : List (Example (Option Fields))
 lines =
     -- as the writer writes it
     reads "1,2,2,0,7782-50-5,2500,0,0,0,11," chlorine
@@ -126,10 +124,10 @@ written =
     ∷ []
 
 -- "A line is at most 200 bytes": 32 and a remark of 168, and of 169
-pub longest : List (Example Line)
+pub longest : List (Example (Option Fields))
 longest =
-    record { bytes = ascii "1,2,2,0,7782-50-5,2500,0,0,0,11," ++ replicate 168 45; is = line.Card chlorine }
-    ∷ record { bytes = ascii "1,2,2,0,7782-50-5,2500,0,0,0,11," ++ replicate 169 45; is = line.Malformed }
+    record { bytes = ascii "1,2,2,0,7782-50-5,2500,0,0,0,11," ++ replicate 168 45; is = Some chlorine }
+    ∷ record { bytes = ascii "1,2,2,0,7782-50-5,2500,0,0,0,11," ++ replicate 169 45; is = None }
     ∷ []
 
 -- ---- texts
@@ -162,21 +160,21 @@ texts =
 pub record Call : Type 0 where
   pub text : String
   pub room : ℕ
-  pub answer : Converted
+  pub answer : Result ℕ (SentBack ℕ)
 
 pub calls : List Call
 calls =
     -- 7 + 24 bytes
-    record { text = "2,0,0,0,74-98-6,10000,0,0,0,1,\n"; room = 31; answer = converted.Bytes 31 }
-    ∷ record { text = ""; room = 100; answer = converted.Bytes 7 }
+    record { text = "2,0,0,0,74-98-6,10000,0,0,0,1,\n"; room = 31; answer = Ok 31 }
+    ∷ record { text = ""; room = 100; answer = Ok 7 }
     -- 13: "the output buffer is too small", "found last"
-    ∷ record { text = "2,0,0,0,74-98-6,10000,0,0,0,1,\n"; room = 30; answer = converted.Refused refusal.Room 0 }
-    ∷ record { text = "2,0,0,0,74-98-6,10000,0,0,0,1,\nno card\n"; room = 0; answer = converted.Refused refusal.Line 2 }
+    ∷ record { text = "2,0,0,0,74-98-6,10000,0,0,0,1,\n"; room = 30; answer = Err (refused_at refusal.Room 0) }
+    ∷ record { text = "2,0,0,0,74-98-6,10000,0,0,0,1,\nno card\n"; room = 0; answer = Err (refused_at refusal.Line 2) }
     ∷ []
 
 -- every line, card, text and call of a table comes to what stands beside it
-abbrev pub LinesAs : List (Example Line) → Type 0
-LinesAs table = map (λ (x : Example Line). line_of x.bytes) table ≡ map (λ (x : Example Line). x.is) table
+abbrev pub LinesAs : List (Example (Option Fields)) → Type 0
+LinesAs table = map (λ (x : Example (Option Fields)). line_of x.bytes) table ≡ map (λ (x : Example (Option Fields)). x.is) table
 
 abbrev pub WrittenAs : List (Example Fields) → Type 0
 WrittenAs table = map (λ (x : Example Fields). strict_line x.is) table ≡ map (λ (x : Example Fields). x.bytes) table

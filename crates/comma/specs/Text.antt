@@ -1,17 +1,15 @@
 -- A text of comma lines: its cards, or the first line that is not well formed; what the reader answers, and what it leaves in
 -- the lent buffer.
 -- Assumes nothing.
-use Rattle.std.specs.Prelude.{ℕ, suc, ◌+◌, ◌*◌, List, [], ◌∷◌, ◌++◌, Bool, true, false, ltb, length, drop}
+use Rattle.std.specs.Prelude.{ℕ, suc, ◌+◌, ◌*◌, List, [], ◌∷◌, ◌++◌, Bool, true, false, ltb, length, drop, Option, Some, None, Result, Ok, Err}
+use Rattle.refusals.specs.declared.SentBack.{SentBack}
+use Rattle.refusals.specs.Numbers.{refused_at}
 use Rattle.search.specs.Places.{either}
 use Rattle.buffer.specs.Numbers.{two_bytes, four_bytes}
 use Rattle.pieces.specs.Pieces.{pieces}
 use Rattle.fields.specs.declared.Fields.{Fields}
 use Rattle.refusals.specs.declared.Refusal.TheVariants as refusal
 use Rattle.header.specs.Header.{header_size, card_size}
-use Rattle.comma.specs.declared.Line.{Line}
-use Rattle.comma.specs.declared.Line.TheVariants as line
-use Rattle.comma.specs.declared.Converted.{Converted}
-use Rattle.comma.specs.declared.Converted.TheVariants as converted
 use Rattle.comma.specs.Line.{line_of}
 
 -- "A line is .. then a line feed (10), optional to the reader after the last": an empty text has no lines
@@ -28,9 +26,9 @@ abbrev pub joined : Fields → Cards → Cards
 joined f (cards rest) = cards (f ∷ rest)
 joined f (bad k) = bad k
 
-abbrev pub then : Line → ℕ → Cards → Cards
-then (line.Card f) k further = joined f further
-then line.Malformed k further = bad k
+abbrev pub then : Option Fields → ℕ → Cards → Cards
+then (Some f) k further = joined f further
+then None k further = bad k
 
 -- lines that are left, the first of them with the number k
 unfoldable pub cards_from : ℕ → List (List ℕ) → Cards
@@ -74,12 +72,12 @@ unfoldable pub bad_room : ℕ → ℕ → Bool
 bad_room count room = either (ltb 2_000 count) (ltb room (size_of count))
 
 -- 12 with its line's number; 13 with place 0; else how many bytes were written
-abbrev pub read_as : Cards → ℕ → Converted
-read_as (cards xs) room = elim (bad_room (length xs) room) [ true ↦ converted.Refused refusal.Room 0 | false ↦ converted.Bytes (size_of (length xs)) ]
-read_as (bad k) room = converted.Refused refusal.Line k
+abbrev pub read_as : Cards → ℕ → Result ℕ (SentBack ℕ)
+read_as (cards xs) room = elim (bad_room (length xs) room) [ true ↦ Err (refused_at refusal.Room 0) | false ↦ Ok (size_of (length xs)) ]
+read_as (bad k) room = Err (refused_at refusal.Line k)
 
 -- what the reader answers for a text and a lent buffer of this length
-unfoldable pub reading_of : List ℕ → ℕ → Converted
+unfoldable pub reading_of : List ℕ → ℕ → Result ℕ (SentBack ℕ)
 reading_of text room = read_as (cards_in text) room
 
 -- "bytes of a lent buffer behind what is written stay"; a refusal changes none

@@ -1,14 +1,13 @@
 -- Condition 11 is what a table does not answer.
 -- Assumes nothing.
-use Rattle.std.specs.Prelude.{ℕ, suc, ◌+◌, ◌-◌, ◌/◌, ◌≤◌, ◌<◌, ◌≡◌, Bool, true, false, not, List, [], ◌∷◌, map, eqb, ltb, get_or, length}
+use Rattle.std.specs.Prelude.{ℕ, suc, ◌+◌, ◌-◌, ◌/◌, ◌≤◌, ◌<◌, ◌≡◌, Bool, true, false, not, List, [], ◌∷◌, map, eqb, ltb, get_or, length, Option, Some, None}
+use Rattle.units.specs.declared.Miles.{Miles}
 use Rattle.std.proofs.Common.{le_refl, arith, ◌∙◌, sym, subst, eqb-true, ltb-true}
 use Rattle.std.proofs.Math.Path.{refl, ap}
 use Rattle.std.proofs.lemmas.List.{length-map}
 use Rattle.search.specs.Rising.{both, first_at_least}
 use Rattle.search.specs.Laws.{both_true, first_on}
 use Rattle.search.specs.PlaceLaws.{every_at}
-use Rattle.units.specs.declared.Reading.{Reading}
-use Rattle.units.specs.declared.Reading.TheVariants as reading
 use Rattle.dispersion.specs.declared.Ground.{Ground}
 use Rattle.rules.specs.Printed.{Range}
 use Rattle.rules.specs.Rules.{in_use, larger, closest, closest_row, closest_column, from_column, thousandths, last_of, mile_limit, answered, by_row, by_range, past, holding, distance, mark_of}
@@ -20,16 +19,16 @@ use Rattle.rules.proofs.Laws.{length_thousandths, never_past}
 use Rattle.conditions.specs.Conditions.{above_last, last_in_use, beyond_table}
 
 -- what a table does not answer
-abbrev pub is_beyond : Reading → Bool
-is_beyond (reading.Distance d) = false
-is_beyond reading.Beyond = true
+abbrev pub is_beyond : Option Miles → Bool
+is_beyond (Some d) = false
+is_beyond None = true
 
 answered_is : (above : Bool) (entry : ℕ) → both above (not (eqb entry mile_limit)) ≡ is_beyond (answered above entry)
 unfolding answered
 answered_is false entry = refl
 answered_is true entry = go (eqb entry mile_limit)
   where
-    go : (t : Bool) → not t ≡ is_beyond (elim t as (λ _. Reading) [ true ↦ reading.Distance (record { 0 = entry }) | false ↦ reading.Beyond ])
+    go : (t : Bool) → not t ≡ is_beyond (elim t as (λ _. Option Miles) [ true ↦ Some (record { 0 = entry }) | false ↦ None ])
     go true = refl
     go false = refl
 

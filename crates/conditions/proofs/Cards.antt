@@ -1,6 +1,12 @@
 -- What a card comes to is the first of its conditions that holds.
 -- Assumes nothing.
-use Rattle.std.specs.Prelude.{ℕ, ◌≡◌, refl, Bool, false, List, [], ◌∷◌, eqb, ltb, drop}
+use Rattle.std.specs.Prelude.{ℕ, ◌≡◌, refl, Bool, false, List, [], ◌∷◌, eqb, ltb, drop, Option, Some, None, Result, Ok, Err}
+use Rattle.card.specs.declared.Answer.{Answer}
+use Rattle.dispersion.specs.declared.Ground.{Ground}
+use Rattle.release.specs.declared.Containment.{Containment}
+use Rattle.scenario.specs.declared.Scenario.{Scenario}
+use Rattle.scenario.specs.declared.Tenths.{Tenths}
+use Rattle.units.specs.declared.Miles.{Miles}
 use Rattle.std.proofs.Common.{◌∙◌, sym, ap₂, eq-eqb, ne_eqb}
 use Rattle.std.proofs.Math.Path.{ap}
 use Rattle.std.proofs.Math.Bool.{true, not}
@@ -8,32 +14,21 @@ use Rattle.std.proofs.lemmas.Bool.{not-false}
 use Rattle.search.specs.Rising.{both}
 use Rattle.search.specs.Laws.{clash}
 use Rattle.search.specs.Places.{either, among}
-use Rattle.units.specs.declared.Reading.{Reading}
-use Rattle.units.specs.declared.Reading.TheVariants as reading
 use Rattle.exhibits.specs.declared.Toxic.{Toxic}
 use Rattle.solutions.specs.Solutions.{bad_percent}
 use Rattle.dispersion.specs.Tables.{reading_of}
 use Rattle.combustion.specs.Heats.{is_flammable}
 use Rattle.which_table.specs.declared.State.{State}
 use Rattle.scenario.specs.declared.ToxicCard.{ToxicCard}
-use Rattle.scenario.specs.declared.Planned.{Planned}
-use Rattle.scenario.specs.declared.Planned.TheVariants as planned
 use Rattle.scenario.specs.Plan.{plan_of}
 use Rattle.fields.specs.declared.Fields.{Fields}
 use Rattle.buffer.specs.Numbers.{byte_at}
 use Rattle.fields.specs.Layout.{fields_of}
 use Rattle.refusals.specs.declared.Refusal.{Refusal}
 use Rattle.refusals.specs.declared.Refusal.TheVariants as refusal
-use Rattle.form.specs.declared.StateByte.{StateByte}
-use Rattle.form.specs.declared.StateByte.TheVariants as stateByte
-use Rattle.form.specs.declared.GroundByte.{GroundByte}
-use Rattle.form.specs.declared.GroundByte.TheVariants as ground_byte
-use Rattle.form.specs.declared.Held.{Held}
-use Rattle.form.specs.declared.Held.TheVariants as held
 use Rattle.form.specs.declared.Standing.{Standing}
 use Rattle.form.specs.declared.Shape.{Shape}
 use Rattle.form.specs.declared.Shape.TheVariants as shape
-use Rattle.ranges.specs.declared.Bounds.{Bounds}
 use Rattle.ranges.specs.Ranges.{bad_pounds, bad_area, bad_wall, bad_heat, signed, tenths_of, bad_tenths, is_out_of_range, bounds_if, bounds_of}
 use Rattle.meaning.specs.declared.Meaning.{Meaning}
 use Rattle.meaning.specs.declared.Meaning.TheVariants as meaning
@@ -42,8 +37,6 @@ use Rattle.meaning.specs.Reading.{bad_number, substance_of, toxic_bounded, is_li
 use Rattle.meaning.specs.States.{by_state}
 use Rattle.form.specs.Inverse.{Stands, toxic_shape, flammable_shape}
 use Rattle.form.specs.Same.{Blank, flammable_blank}
-use Rattle.card.specs.declared.Answered.{Answered}
-use Rattle.card.specs.declared.Answered.TheVariants as answered
 use Rattle.card.specs.Answers.{read_toxic, planned_answer, answer_for, answer_of}
 use Rattle.conditions.specs.Conditions.{any_of, in_solution, of_gas, of_liquid, of_flammable, of_solution, bad_cas, bad_temperature, bad_concentration, mismatched, toxic_card, ground_in, beyond_plan, beyond, of_card}
 use Rattle.conditions.specs.First.{Verdict, passed, refused, pick, first_of}
@@ -54,9 +47,9 @@ use Rattle.conditions.proofs.Vessel.{card_from, card_made, ground_made}
 use Rattle.conditions.proofs.Beyond.{is_beyond, reading_beyond}
 
 -- an answer, or a refusal
-abbrev pub verdict_of : Answered → Verdict
-verdict_of (answered.Is a) = passed
-verdict_of (answered.Refused r) = refused r
+abbrev pub verdict_of : Result Answer Refusal → Verdict
+verdict_of (Ok a) = passed
+verdict_of (Err r) = refused r
 
 -- what the lines behind 6 come to, where the form is sound
 abbrev behind_form : List ℕ → Verdict
@@ -65,14 +58,14 @@ behind_form card = first_of (drop 2 (of_card card 0))
 -- ---- a check is a line of the table: where the same test decides both, and what comes behind them is the same
 
 -- of any call, by what it makes of a meaning, where it passes a refusal on
-module _ (told : Meaning → Verdict) (refusing : (r : Refusal) → told (meaning.Refused r) ≡ refused r) where
+module _ (told : Result Meaning Refusal → Verdict) (refusing : (r : Refusal) → told (Err r) ≡ refused r) where
   -- a check of a meaning
-  meaning_line : (b : Bool) (r : Refusal) (further : Meaning) {v : Verdict} → (b ≡ false → told further ≡ v) → told (meaning_if b r further) ≡ pick b r v
+  meaning_line : (b : Bool) (r : Refusal) (further : Result Meaning Refusal) {v : Verdict} → (b ≡ false → told further ≡ v) → told (meaning_if b r further) ≡ pick b r v
   meaning_line true r further h = refusing r
   meaning_line false r further h = h refl
 
   -- a check of a toxic card's ranges; the line may say its test in other words
-  bounds_line : (f : Fields) (x : Toxic) (standing : Standing) (b t : Bool) (r : Refusal) (further : Bounds) {v : Verdict} → b ≡ t → (b ≡ false → told (toxic_bounded further f x standing) ≡ v) → told (toxic_bounded (bounds_if b r further) f x standing) ≡ pick t r v
+  bounds_line : (f : Fields) (x : Toxic) (standing : Standing) (b t : Bool) (r : Refusal) (further : Result Tenths Refusal) {v : Verdict} → b ≡ t → (b ≡ false → told (toxic_bounded further f x standing) ≡ v) → told (toxic_bounded (bounds_if b r further) f x standing) ≡ pick t r v
   bounds_line f x standing true t r further {v} e h = refusing r ∙ ap (λ c. pick c r v) e
   bounds_line f x standing false t r further {v} e h = h refl ∙ ap (λ c. pick c r v) e
 
@@ -81,28 +74,28 @@ unmet : (b : Bool) (r : Refusal) {v w : Verdict} → b ≡ false → v ≡ w →
 unmet b r {v} {w} e h = h ∙ ap (λ t. pick t r w) (sym e)
 
 -- a form is refused for its form
-heat_refused : (b : Bool) (s : Standing) {r : Refusal} → shaped_heat b s ≡ shape.Refused r → refusal.Form ≡ r
+heat_refused : (b : Bool) (s : Standing) {r : Refusal} → shaped_heat b s ≡ Err r → refusal.Form ≡ r
 heat_refused true s e = let z : ◌≡◌ {A = ℕ} 0 1 = cc in clash z
 heat_refused false s e = cc
 
-held_refused : (h : Held) (f : Fields) (s : State) (g : GroundByte) {r : Refusal} → shaped_held h f s g ≡ shape.Refused r → refusal.Form ≡ r
-held_refused (held.Is c) f s (ground_byte.Is g) e = heat_refused (heat_fits s f.heat) (record { state = s; topography = g; containment = c }) e
-held_refused (held.Is c) f s ground_byte.Unlisted e = cc
-held_refused held.Filled f s g e = cc
+held_refused : (h : Option Containment) (f : Fields) (s : State) (g : Option Ground) {r : Refusal} → shaped_held h f s g ≡ Err r → refusal.Form ≡ r
+held_refused (Some c) f s (Some g) e = heat_refused (heat_fits s f.heat) (record { state = s; topography = g; containment = c }) e
+held_refused (Some c) f s None e = cc
+held_refused None f s g e = cc
 
-state_refused : (x : StateByte) (f : Fields) {r : Refusal} → shaped_state x f ≡ shape.Refused r → refusal.Form ≡ r
-state_refused (stateByte.Is s) f e = held_refused (held_of f.containment f.area f.wall) f s (ground_of f.topography) e
-state_refused stateByte.Unlisted f e = cc
+state_refused : (x : Option State) (f : Fields) {r : Refusal} → shaped_state x f ≡ Err r → refusal.Form ≡ r
+state_refused (Some s) f e = held_refused (held_of f.containment f.area f.wall) f s (ground_of f.topography) e
+state_refused None f e = cc
 
-blank_refused : (b : Bool) {r : Refusal} → shaped_blank b ≡ shape.Refused r → refusal.Form ≡ r
+blank_refused : (b : Bool) {r : Refusal} → shaped_blank b ≡ Err r → refusal.Form ≡ r
 blank_refused true e = let z : ◌≡◌ {A = ℕ} 0 1 = cc in clash z
 blank_refused false e = cc
 
-pub form_refused : (f : Fields) {r : Refusal} → shape_of f ≡ shape.Refused r → refusal.Form ≡ r
+pub form_refused : (f : Fields) {r : Refusal} → shape_of f ≡ Err r → refusal.Form ≡ r
 unfolding shape_of
 form_refused f {r} e = go (eqb f.kind 1) (eqb f.kind 2) e
   where
-    go : (a b : Bool) → (elim a as (λ _. Shape) [ true ↦ shaped_state (state_of f.state) f | false ↦ elim b as (λ _. Shape) [ true ↦ shaped_blank (blank f) | false ↦ shape.Refused refusal.Form ] ]) ≡ shape.Refused r → refusal.Form ≡ r
+    go : (a b : Bool) → (elim a as (λ _. Result Shape Refusal) [ true ↦ shaped_state (state_of f.state) f | false ↦ elim b as (λ _. Result Shape Refusal) [ true ↦ shaped_blank (blank f) | false ↦ Err refusal.Form ] ]) ≡ Err r → refusal.Form ≡ r
     go true b q = state_refused (state_of f.state) f q
     go false true q = blank_refused (blank f) q
     go false false q = cc
@@ -176,7 +169,7 @@ up_to_mismatch card further =
     (pick (mismatched card) refusal.Mismatch further))))))
 
 -- what any call makes of a toxic card whose form is sound: these in turn, and behind them what it makes of the card in meaning
-pub toxic_verdict : (told : Meaning → Verdict) (refusing : (r : Refusal) → told (meaning.Refused r) ≡ refused r) (card : List ℕ) (standing : Standing) (v : Verdict) → shape_of (fields_of card) ≡ shape.Toxic standing → told (meaning.Toxic (card_from (fields_of card) standing)) ≡ pick (is_mismatch (plan_of (card_from (fields_of card) standing))) refusal.Mismatch v → told (toxic_meaning (substance_of (fields_of card)) (fields_of card) standing) ≡ up_to_mismatch card v
+pub toxic_verdict : (told : Result Meaning Refusal → Verdict) (refusing : (r : Refusal) → told (Err r) ≡ refused r) (card : List ℕ) (standing : Standing) (v : Verdict) → shape_of (fields_of card) ≡ Ok (shape.Toxic standing) → told (Ok (meaning.Toxic (card_from (fields_of card) standing))) ≡ pick (is_mismatch (plan_of (card_from (fields_of card) standing))) refusal.Mismatch v → told (toxic_meaning (substance_of (fields_of card)) (fields_of card) standing) ≡ up_to_mismatch card v
 unfolding toxic_meaning bounds_of fields_of
 toxic_verdict told refusing card standing v e h =
     let f : Fields = fields_of card in
@@ -193,20 +186,20 @@ toxic_verdict told refusing card standing v e h =
     (λ r. h ∙ ap (λ m. pick m refusal.Mismatch v) (sym (mismatch_is card standing from (not-false (is_listed x) l) r)))))))))
 
 -- what the register's call makes of a meaning
-abbrev verdict_for : ℕ → Meaning → Verdict
+abbrev verdict_for : ℕ → Result Meaning Refusal → Verdict
 verdict_for n m = verdict_of (answer_for m n)
 
-plan_verdict : (n : ℕ) (p : Planned) (card : ToxicCard) → verdict_of (planned_answer p n card) ≡ pick (is_mismatch p) refusal.Mismatch (pick (beyond_plan p card.topography) refusal.Beyond passed)
-plan_verdict n (planned.Planned s) card =
+plan_verdict : (n : ℕ) (p : Option Scenario) (card : ToxicCard) → verdict_of (planned_answer p n card) ≡ pick (is_mismatch p) refusal.Mismatch (pick (beyond_plan p card.topography) refusal.Beyond passed)
+plan_verdict n (Some s) card =
     go (reading_of s.table card.topography s.rate.0 s.endpoint)
     ∙ ap (λ t. pick t refusal.Beyond passed) (sym (reading_beyond card.topography s.rate.0 s.endpoint s.table))
   where
-    go : (x : Reading) → verdict_of (read_toxic x n s) ≡ pick (is_beyond x) refusal.Beyond passed
-    go (reading.Distance d) = refl
-    go reading.Beyond = refl
-plan_verdict n planned.Mismatch card = refl
+    go : (x : Option Miles) → verdict_of (read_toxic x n s) ≡ pick (is_beyond x) refusal.Beyond passed
+    go (Some d) = refl
+    go None = refl
+plan_verdict n None card = refl
 
-toxic_card_verdict : (card : List ℕ) (n : ℕ) (standing : Standing) → shape_of (fields_of card) ≡ shape.Toxic standing → verdict_for n (toxic_meaning (substance_of (fields_of card)) (fields_of card) standing) ≡ behind_form card
+toxic_card_verdict : (card : List ℕ) (n : ℕ) (standing : Standing) → shape_of (fields_of card) ≡ Ok (shape.Toxic standing) → verdict_for n (toxic_meaning (substance_of (fields_of card)) (fields_of card) standing) ≡ behind_form card
 unfolding of_card first_of
 toxic_card_verdict card n standing e =
     let made : ToxicCard = card_from (fields_of card) standing in
@@ -237,7 +230,7 @@ mismatch_blank : (card : List ℕ) → Blank (fields_of card) → mismatched car
 unfolding among fields_of
 mismatch_blank card b = mismatch_none card 0 b.state refl
 
-flammable_verdict : (card : List ℕ) (n : ℕ) → shape_of (fields_of card) ≡ shape.Flammable → verdict_of (answer_for (flammable_of (fields_of card)) n) ≡ behind_form card
+flammable_verdict : (card : List ℕ) (n : ℕ) → shape_of (fields_of card) ≡ Ok shape.Flammable → verdict_of (answer_for (flammable_of (fields_of card)) n) ≡ behind_form card
 unfolding flammable_of fields_of of_flammable is_flammable of_card first_of
 flammable_verdict card n e =
     let f : Fields = fields_of card in
@@ -258,10 +251,10 @@ flammable_verdict card n e =
 -- ---- any card
 
 -- where the form is refused, what comes behind it does not count
-shape_verdict : (card : List ℕ) (n : ℕ) (s : Shape) → shape_of (fields_of card) ≡ s → verdict_of (answer_for (shaped s (fields_of card)) n) ≡ pick (is_refused s) refusal.Form (behind_form card)
-shape_verdict card n (shape.Toxic standing) e = toxic_card_verdict card n standing e
-shape_verdict card n shape.Flammable e = flammable_verdict card n e
-shape_verdict card n (shape.Refused r) e = ap refused (sym (form_refused (fields_of card) e))
+shape_verdict : (card : List ℕ) (n : ℕ) (s : Result Shape Refusal) → shape_of (fields_of card) ≡ s → verdict_of (answer_for (shaped s (fields_of card)) n) ≡ pick (is_refused s) refusal.Form (behind_form card)
+shape_verdict card n (Ok (shape.Toxic standing)) e = toxic_card_verdict card n standing e
+shape_verdict card n (Ok shape.Flammable) e = flammable_verdict card n e
+shape_verdict card n (Err r) e = ap refused (sym (form_refused (fields_of card) e))
 
 -- a card is refused by the first of its conditions that holds, and answered where none does
 pub card_verdict : (card : List ℕ) (last : ℕ) → verdict_of (answer_of card last) ≡ first_of (of_card card last)

@@ -1,5 +1,8 @@
 -- Demand 1, proved: a call gives exactly the first refusal whose condition holds, and accepts exactly when none does.
 -- Assumes nothing.
+use Rattle.std.specs.Prelude.{Result, Ok, Err}
+use Rattle.refusals.specs.declared.SentBack.{SentBack}
+use Rattle.refusals.specs.Numbers.{refused_at}
 use Prim.Native.Nat.{ℕ, zero, suc, ◌+◌, ◌*◌, ◌≤◌, ◌<◌}
 use Rattle.std.proofs.Common.{le_refl, not-suc-le-zero, ◌∙◌, sym, subst, inl, inr, ⊎_elim, drop-drop, lt-ltb, le-ltb}
 use native.Mathlib.Omega.{arith}
@@ -11,16 +14,10 @@ use Rattle.search.specs.Laws.{lt_or_ge}
 use Rattle.refusals.specs.declared.Refusal.{Refusal}
 use Rattle.refusals.specs.declared.Refusal.TheVariants as refusal
 use Rattle.card.specs.declared.Answer.{Answer}
-use Rattle.card.specs.declared.Answered.{Answered}
-use Rattle.card.specs.declared.Answered.TheVariants as answered
 use Rattle.card.specs.Number.{answer_number}
 use Rattle.card.specs.Answers.{answer_of}
 use Rattle.farthest.specs.declared.Leaders.{Leaders}
-use Rattle.header.specs.declared.Header.{Header}
-use Rattle.header.specs.declared.Header.TheVariants as header
 use Rattle.header.specs.Header.{bad_length, bad_version, bad_count, bad_buffer, header_if, header_of, count_of}
-use Rattle.walk.specs.declared.Outcome.{Outcome}
-use Rattle.walk.specs.declared.Outcome.TheVariants as outcome
 use Rattle.cards.specs.Register.{Cards, answers, sent_back, joined, then, cards_from, cards_of, result_of, after_header, outcome_of}
 use Rattle.ordering.specs.Claim.{card_at}
 use Rattle.ordering.proofs.Found.{header_count}
@@ -59,7 +56,7 @@ module _ (bytes : List ℕ) where
       let z : 7 + 24 * from + 24 ≡ 7 + 24 * suc from = omega arith in
       drop-drop 24 (7 + 24 * from) bytes ∙ ap (λ n. drop n bytes) z
 
-  verdict_at : (from last : ℕ) (x : Answered) → last ≡ number_before bytes from → answer_of (card_at bytes from) last ≡ x → at from ≡ verdict_of x
+  verdict_at : (from last : ℕ) (x : Result Answer Refusal) → last ≡ number_before bytes from → answer_of (card_at bytes from) last ≡ x → at from ≡ verdict_of x
   verdict_at from last x e q =
       sym (card_verdict (card_at bytes from) (number_before bytes from))
       ∙ (ap (λ k. verdict_of (answer_of (card_at bytes from) k)) (sym e) ∙ ap verdict_of q)
@@ -70,26 +67,26 @@ module _ (bytes : List ℕ) where
   walked (suc n) from last e =
       go (answer_of (card_at bytes from) last) refl (λ k q. walked n (suc from) k q)
     where
-      go : (x : Answered) → answer_of (card_at bytes from) last ≡ x → ((k : ℕ) → k ≡ number_before bytes (suc from) → Walked (cards_from n (suc from) k (drop (7 + 24 * suc from) bytes)) (suc from) n) → Walked (then x from (λ k. cards_from n (suc from) k (drop 24 (drop (7 + 24 * from) bytes)))) from (suc n)
-      go (answered.Is a) q ih =
+      go : (x : Result Answer Refusal) → answer_of (card_at bytes from) last ≡ x → ((k : ℕ) → k ≡ number_before bytes (suc from) → Walked (cards_from n (suc from) k (drop (7 + 24 * suc from) bytes)) (suc from) n) → Walked (then x from (λ k. cards_from n (suc from) k (drop 24 (drop (7 + 24 * from) bytes)))) from (suc n)
+      go (Ok a) q ih =
           walked_on a (cards_from n (suc from) a.number (drop 24 (drop (7 + 24 * from) bytes))) from n
-          (verdict_at from last (answered.Is a) e q)
+          (verdict_at from last (Ok a) e q)
           (subst (λ (b : List ℕ). Walked (cards_from n (suc from) a.number b) (suc from) n) (sym (next from))
           (ih a.number (answer_number (card_at bytes from) last q)))
-      go (answered.Refused r) q ih =
-          (le_refl from, omega arith, verdict_at from last (answered.Refused r) e q, λ p l h. absurd (omega arith))
+      go (Err r) q ih =
+          (le_refl from, omega arith, verdict_at from last (Err r) e q, λ p l h. absurd (omega arith))
 
 -- ---- the whole register
 
-abbrev header_verdict : Header → Verdict
-header_verdict (header.Good n) = passed
-header_verdict (header.Refused r) = refused r
+abbrev header_verdict : Result ℕ Refusal → Verdict
+header_verdict (Ok n) = passed
+header_verdict (Err r) = refused r
 
 header_verdict_lem : (bytes : List ℕ) (room : ℕ) → first_of (of_register bytes room) ≡ header_verdict (header_of bytes room)
 unfolding header_of of_register first_of
 header_verdict_lem bytes room = go (bad_length bytes) (bad_version bytes) (bad_count bytes) (bad_buffer bytes room)
   where
-    go : (a b c d : Bool) → pick a refusal.Length (pick b refusal.Version (pick c refusal.Count (pick d refusal.Buffer passed))) ≡ header_verdict (header_if a refusal.Length (header_if b refusal.Version (header_if c refusal.Count (header_if d refusal.Buffer (header.Good (count_of bytes))))))
+    go : (a b c d : Bool) → pick a refusal.Length (pick b refusal.Version (pick c refusal.Count (pick d refusal.Buffer passed))) ≡ header_verdict (header_if a refusal.Length (header_if b refusal.Version (header_if c refusal.Count (header_if d refusal.Buffer (Ok (count_of bytes))))))
     go true b c d = refl
     go false true c d = refl
     go false false true d = refl
@@ -131,9 +128,9 @@ module _ (bytes : List ℕ) (room : ℕ) where
       ∙ ap (λ v. after v (first_of (only (ltb 0 (count_of bytes)) (card_lines 0)))) (first_here (of_register bytes room) ∙ e)
 
   -- what the call answers, in terms of the table
-  abbrev pub Told : Outcome → Type 0
-  Told (outcome.Accepted l) = Passes (conditions_at bytes room)
-  Told (outcome.Refused r place) = Refuses (conditions_at bytes room) r place
+  abbrev pub Told : Result Leaders (SentBack ℕ) → Type 0
+  Told (Ok l) = Passes (conditions_at bytes room)
+  Told (Err sent) = Refuses (conditions_at bytes room) sent.refusal sent.place
 
   cards_told : (c : Cards) → first_of (of_register bytes room) ≡ passed → Walked bytes c 0 (count_of bytes) → Told (result_of c)
   cards_told (answers xs) e w = λ p.
@@ -145,13 +142,13 @@ module _ (bytes : List ℕ) (room : ℕ) where
       let h : q < count_of bytes = omega (arith, w.1) in
       (card_there e q h ∙ w.2, λ p l. card_there e p (omega arith) ∙ w.3 p (omega arith) l)
 
-  header_told : (h : Header) → header_of bytes room ≡ h → Told (after_header h bytes)
+  header_told : (h : Result ℕ Refusal) → header_of bytes room ≡ h → Told (after_header h bytes)
   unfolding cards_of
-  header_told (header.Good n) e =
+  header_told (Ok n) e =
       let c : count_of bytes ≡ n = header_count bytes room n e in
       cards_told (cards_from n 0 0 (drop 7 bytes)) (header_verdict_lem bytes room ∙ ap header_verdict e)
       (subst (λ k. Walked bytes (cards_from n 0 0 (drop 7 bytes)) 0 k) (sym c) (walked bytes n 0 0 refl))
-  header_told (header.Refused r) e =
+  header_told (Err r) e =
       (header_first r (header_verdict_lem bytes room ∙ ap header_verdict e), λ p h. absurd (not-suc-le-zero h))
 
   pub told : Told (outcome_of bytes room)
@@ -159,15 +156,15 @@ module _ (bytes : List ℕ) (room : ℕ) where
   told = header_told (header_of bytes room) refl
 
 -- it accepts or refuses
-ends : (o : Outcome) → ((l : Leaders) × (o ≡ outcome.Accepted l)) ⊎ ((r : Refusal) × (place : ℕ) × (o ≡ outcome.Refused r place))
-ends (outcome.Accepted l) = inl (l, refl)
-ends (outcome.Refused r place) = inr (r, place, refl)
+ends : (o : Result Leaders (SentBack ℕ)) → ((l : Leaders) × (o ≡ Ok l)) ⊎ ((r : Refusal) × (place : ℕ) × (o ≡ Err (refused_at r place)))
+ends (Ok l) = inl (l, refl)
+ends (Err sent) = inr (sent.refusal, sent.place, refl)
 
 pub refused_exactly : RefusedExactly
 refused_exactly bytes room =
     exactly_by (conditions_at bytes room)
-    (λ r place. outcome_of bytes room ≡ outcome.Refused r place)
-    ((l : Leaders) × (outcome_of bytes room ≡ outcome.Accepted l))
+    (λ r place. outcome_of bytes room ≡ Err (refused_at r place))
+    ((l : Leaders) × (outcome_of bytes room ≡ Ok l))
     (ends (outcome_of bytes room))
     (λ a. subst (Told bytes room) a.1 (told bytes room))
     (λ r place e. subst (Told bytes room) e (told bytes room))

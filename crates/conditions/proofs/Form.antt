@@ -1,6 +1,9 @@
 -- Condition 6 is what the form of a card comes to.
 -- Assumes nothing.
-use Rattle.std.specs.Prelude.{ℕ, zero, suc, ◌+◌, ◌*◌, ◌<◌, ◌≡◌, Bool, true, false, List, [], ◌∷◌, eqb}
+use Rattle.std.specs.Prelude.{ℕ, zero, suc, ◌+◌, ◌*◌, ◌<◌, ◌≡◌, Bool, true, false, List, [], ◌∷◌, eqb, Option, Some, None, Result, Ok, Err}
+use Rattle.dispersion.specs.declared.Ground.{Ground}
+use Rattle.refusals.specs.declared.Refusal.{Refusal}
+use Rattle.release.specs.declared.Containment.{Containment}
 use Rattle.std.proofs.Common.{zero-add, zero-mul, suc-mul, arith, ◌∙◌, sym, ap₂, ne_eqb}
 use Rattle.std.proofs.Math.Path.{refl, ap}
 use Rattle.std.proofs.Math.Bool.{not}
@@ -16,12 +19,6 @@ use Rattle.fields.specs.declared.Fields.{Fields}
 use Rattle.buffer.specs.Numbers.{byte_at, two_at, four_at}
 use Rattle.fields.specs.Layout.{fields_of}
 use Rattle.refusals.specs.declared.Refusal.TheVariants as refusal
-use Rattle.form.specs.declared.StateByte.{StateByte}
-use Rattle.form.specs.declared.StateByte.TheVariants as stateByte
-use Rattle.form.specs.declared.GroundByte.{GroundByte}
-use Rattle.form.specs.declared.GroundByte.TheVariants as ground_byte
-use Rattle.form.specs.declared.Held.{Held}
-use Rattle.form.specs.declared.Held.TheVariants as held
 use Rattle.form.specs.declared.Standing.{Standing}
 use Rattle.form.specs.declared.Shape.{Shape}
 use Rattle.form.specs.declared.Shape.TheVariants as shape
@@ -30,22 +27,22 @@ use Rattle.form.specs.Inverse.{state_is, no_held}
 use Rattle.conditions.specs.Conditions.{unlisted, filled, bad_toxic, bad_flammable, bad_form}
 
 -- what the form refuses
-abbrev pub is_refused : Shape → Bool
-is_refused (shape.Toxic standing) = false
-is_refused shape.Flammable = false
-is_refused (shape.Refused r) = true
+abbrev pub is_refused : Result Shape Refusal → Bool
+is_refused (Ok (shape.Toxic standing)) = false
+is_refused (Ok shape.Flammable) = false
+is_refused (Err r) = true
 
-abbrev no_state : StateByte → Bool
-no_state (stateByte.Is s) = false
-no_state stateByte.Unlisted = true
+abbrev no_state : Option State → Bool
+no_state (Some s) = false
+no_state None = true
 
-abbrev no_ground : GroundByte → Bool
-no_ground (ground_byte.Is g) = false
-no_ground ground_byte.Unlisted = true
+abbrev no_ground : Option Ground → Bool
+no_ground (Some g) = false
+no_ground None = true
 
-abbrev is_filled : Held → Bool
-is_filled (held.Is c) = false
-is_filled held.Filled = true
+abbrev is_filled : Option Containment → Bool
+is_filled (Some c) = false
+is_filled None = true
 
 -- a number of several bytes is zero where each of them is
 zero_parts : (m hi lo : ℕ) → eqb (hi * suc m + lo) 0 ≡ both (eqb hi 0) (eqb lo 0)
@@ -119,7 +116,7 @@ state_form : (b : ℕ) → unlisted b (1 ∷ 2 ∷ 3 ∷ 4 ∷ 5 ∷ []) ≡ no_
 unfolding unlisted among state_of
 state_form b = go (eqb b 1) (eqb b 2) (eqb b 3) (eqb b 4) (eqb b 5)
   where
-    go : (p q r s t : Bool) → not (either p (either q (either r (either s (either t false))))) ≡ no_state (elim p as (λ _. StateByte) [ true ↦ stateByte.Is Gas | false ↦ elim q as (λ _. StateByte) [ true ↦ stateByte.Is Pressurized | false ↦ elim r as (λ _. StateByte) [ true ↦ stateByte.Is Refrigerated | false ↦ elim s as (λ _. StateByte) [ true ↦ stateByte.Is Liquid | false ↦ elim t as (λ _. StateByte) [ true ↦ stateByte.Is Solution | false ↦ stateByte.Unlisted ] ] ] ] ])
+    go : (p q r s t : Bool) → not (either p (either q (either r (either s (either t false))))) ≡ no_state (elim p as (λ _. Option State) [ true ↦ Some Gas | false ↦ elim q as (λ _. Option State) [ true ↦ Some Pressurized | false ↦ elim r as (λ _. Option State) [ true ↦ Some Refrigerated | false ↦ elim s as (λ _. Option State) [ true ↦ Some Liquid | false ↦ elim t as (λ _. Option State) [ true ↦ Some Solution | false ↦ None ] ] ] ] ])
     go true q r s t = refl
     go false true r s t = refl
     go false false true s t = refl
@@ -131,7 +128,7 @@ ground_form : (b : ℕ) → unlisted b (1 ∷ 2 ∷ []) ≡ no_ground (ground_of
 unfolding unlisted among ground_of
 ground_form b = go (eqb b 1) (eqb b 2)
   where
-    go : (p q : Bool) → not (either p (either q false)) ≡ no_ground (elim p as (λ _. GroundByte) [ true ↦ ground_byte.Is Rural | false ↦ elim q as (λ _. GroundByte) [ true ↦ ground_byte.Is Urban | false ↦ ground_byte.Unlisted ] ])
+    go : (p q : Bool) → not (either p (either q false)) ≡ no_ground (elim p as (λ _. Option Ground) [ true ↦ Some Rural | false ↦ elim q as (λ _. Option Ground) [ true ↦ Some Urban | false ↦ None ] ])
     go true q = refl
     go false true = refl
     go false false = refl
@@ -140,7 +137,7 @@ held_form : (b area wall : ℕ) → either (unlisted b (0 ∷ 1 ∷ 2 ∷ 3 ∷ 
 unfolding unlisted among held_of open_of
 held_form zero area wall = go (eqb area 0) (eqb wall 0)
   where
-    go : (p q : Bool) → either (not p) (not q) ≡ is_filled (elim q as (λ _. Held) [ true ↦ elim p as (λ _. Held) [ true ↦ held.Is Open | false ↦ held.Filled ] | false ↦ held.Filled ])
+    go : (p q : Bool) → either (not p) (not q) ≡ is_filled (elim q as (λ _. Option Containment) [ true ↦ elim p as (λ _. Option Containment) [ true ↦ Some Open | false ↦ None ] | false ↦ None ])
     go true true = refl
     go true false = refl
     go false true = refl
@@ -148,25 +145,25 @@ held_form zero area wall = go (eqb area 0) (eqb wall 0)
 held_form (suc zero) area wall = refl
 held_form (suc (suc zero)) area wall = go (eqb wall 0)
   where
-    go : (q : Bool) → not q ≡ is_filled (elim q as (λ _. Held) [ true ↦ held.Is (Building (record { floor = record { 0 = 100 * area } })) | false ↦ held.Filled ])
+    go : (q : Bool) → not q ≡ is_filled (elim q as (λ _. Option Containment) [ true ↦ Some (Building (record { floor = record { 0 = 100 * area } })) | false ↦ None ])
     go true = refl
     go false = refl
 held_form (suc (suc (suc zero))) area wall = go (eqb wall 0)
   where
-    go : (q : Bool) → not q ≡ is_filled (elim q as (λ _. Held) [ true ↦ held.Is (ShedWithDoors (record { floor = record { 0 = 100 * area } })) | false ↦ held.Filled ])
+    go : (q : Bool) → not q ≡ is_filled (elim q as (λ _. Option Containment) [ true ↦ Some (ShedWithDoors (record { floor = record { 0 = 100 * area } })) | false ↦ None ])
     go true = refl
     go false = refl
 held_form (suc (suc (suc (suc n)))) area wall =
     rw (no_held (suc (suc (suc (suc n)))) area wall (omega arith), ne_eqb (suc (suc (suc (suc n)))) 0 (λ e. omega arith), ne_eqb (suc (suc (suc (suc n)))) 1 (λ e. omega arith), ne_eqb (suc (suc (suc (suc n)))) 2 (λ e. omega arith), ne_eqb (suc (suc (suc (suc n)))) 3 (λ e. omega arith))
 
 -- a byte above 5 is no state
-pub no_state_lem : (b : ℕ) → 5 < b → state_of b ≡ stateByte.Unlisted
+pub no_state_lem : (b : ℕ) → 5 < b → state_of b ≡ None
 unfolding state_of
 no_state_lem b h =
     simp (ne_eqb b 1 (λ e. omega arith), ne_eqb b 2 (λ e. omega arith), ne_eqb b 3 (λ e. omega arith), ne_eqb b 4 (λ e. omega arith), ne_eqb b 5 (λ e. omega arith), state_of)
 
 -- the temperature, which is "for state 4; zero otherwise", or the concentration for state 5
-heat_form : (b heat : ℕ) (s : State) → state_of b ≡ stateByte.Is s → both (unlisted b (4 ∷ 5 ∷ [])) (not (eqb heat 0)) ≡ not (heat_fits s heat)
+heat_form : (b heat : ℕ) (s : State) → state_of b ≡ Some s → both (unlisted b (4 ∷ 5 ∷ [])) (not (eqb heat 0)) ≡ not (heat_fits s heat)
 unfolding state_of unlisted among
 heat_form zero heat s e = let z : ◌≡◌ {A = ℕ} 0 1 = cc in clash z
 heat_form (suc zero) heat s e = ap (λ x. not (heat_fits x heat)) (state_is e)
@@ -175,7 +172,7 @@ heat_form (suc (suc (suc zero))) heat s e = ap (λ x. not (heat_fits x heat)) (s
 heat_form (suc (suc (suc (suc zero)))) heat s e = ap (λ x. not (heat_fits x heat)) (state_is e)
 heat_form (suc (suc (suc (suc (suc zero))))) heat s e = ap (λ x. not (heat_fits x heat)) (state_is e)
 heat_form (suc (suc (suc (suc (suc (suc n)))))) heat s e =
-    let none : state_of (suc (suc (suc (suc (suc (suc n)))))) ≡ stateByte.Unlisted = no_state_lem (suc (suc (suc (suc (suc (suc n)))))) (omega arith) in
+    let none : state_of (suc (suc (suc (suc (suc (suc n)))))) ≡ None = no_state_lem (suc (suc (suc (suc (suc (suc n)))))) (omega arith) in
     let z : ◌≡◌ {A = ℕ} 0 1 = cc in
     clash z
 
@@ -198,12 +195,12 @@ heat_shape true standing = refl
 heat_shape false standing = refl
 
 module _ (f : Fields) (s : State) (G C A W H : Bool) where
-  in_turn : (g : GroundByte) (h : Held) → G ≡ no_ground g → either C (either A W) ≡ is_filled h → H ≡ not (heat_fits s f.heat) → either G (either C (either A (either W (either H false)))) ≡ is_refused (shaped_held h f s g)
-  in_turn g held.Filled p q r =
+  in_turn : (g : Option Ground) (h : Option Containment) → G ≡ no_ground g → either C (either A W) ≡ is_filled h → H ≡ not (heat_fits s f.heat) → either G (either C (either A (either W (either H false)))) ≡ is_refused (shaped_held h f s g)
+  in_turn g None p q r =
       ap (either G) (regroup C A W (either H false) ∙ ap (λ t. either t (either H false)) q) ∙ either_true G (either H false)
-  in_turn ground_byte.Unlisted (held.Is c) p q r =
+  in_turn None (Some c) p q r =
       ap (λ t. either t (either C (either A (either W (either H false))))) p
-  in_turn (ground_byte.Is d) (held.Is c) p q r =
+  in_turn (Some d) (Some c) p q r =
       ap₂ (λ t u. either t u) p (regroup C A W (either H false) ∙ ap (λ t. either t (either H false)) q)
       ∙ (either_last H ∙ (r ∙ heat_shape (heat_fits s f.heat) (record { state = s; topography = d; containment = c })))
 
@@ -233,10 +230,10 @@ module _ (card : List ℕ) where
   unfolding bad_toxic fields_of
   toxic_form = go (state_of (byte_at card 1)) refl (state_form (byte_at card 1))
     where
-      go : (x : StateByte) → state_of (byte_at card 1) ≡ x → unlisted (byte_at card 1) (1 ∷ 2 ∷ 3 ∷ 4 ∷ 5 ∷ []) ≡ no_state x → bad_toxic card ≡ is_refused (shaped_state x (fields_of card))
-      go stateByte.Unlisted e p =
+      go : (x : Option State) → state_of (byte_at card 1) ≡ x → unlisted (byte_at card 1) (1 ∷ 2 ∷ 3 ∷ 4 ∷ 5 ∷ []) ≡ no_state x → bad_toxic card ≡ is_refused (shaped_state x (fields_of card))
+      go None e p =
           ap (λ t. either t (either no_place (either no_vessel (either stray_area (either stray_wall (either stray_heat false)))))) p
-      go (stateByte.Is s) e p =
+      go (Some s) e p =
           ap (λ t. either t (either no_place (either no_vessel (either stray_area (either stray_wall (either stray_heat false)))))) p
           ∙ in_turn (fields_of card) s no_place no_vessel stray_area stray_wall stray_heat
           (ground_of (byte_at card 2)) (held_of (byte_at card 3) (four_at card 12) (two_at card 16))
@@ -244,7 +241,7 @@ module _ (card : List ℕ) where
           (ap (both (unlisted (byte_at card 1) (4 ∷ 5 ∷ []))) (heat_filled card) ∙ heat_form (byte_at card 1) (two_at card 18) s e)
 
 -- a shape is refused where the card's bytes and fields are
-shape_form : (k : ℕ) (t f : Bool) (x y : Shape) → t ≡ is_refused x → f ≡ is_refused y → either (unlisted k (1 ∷ 2 ∷ [])) (either (both (eqb k 1) t) (either (both (eqb k 2) f) false)) ≡ is_refused (elim (eqb k 1) as (λ _. Shape) [ true ↦ x | false ↦ elim (eqb k 2) as (λ _. Shape) [ true ↦ y | false ↦ shape.Refused refusal.Form ] ])
+shape_form : (k : ℕ) (t f : Bool) (x y : Result Shape Refusal) → t ≡ is_refused x → f ≡ is_refused y → either (unlisted k (1 ∷ 2 ∷ [])) (either (both (eqb k 1) t) (either (both (eqb k 2) f) false)) ≡ is_refused (elim (eqb k 1) as (λ _. Result Shape Refusal) [ true ↦ x | false ↦ elim (eqb k 2) as (λ _. Result Shape Refusal) [ true ↦ y | false ↦ Err refusal.Form ] ])
 unfolding unlisted among
 shape_form zero t f x y p q = refl
 shape_form (suc zero) t f x y p q = either_last t ∙ p
@@ -253,7 +250,7 @@ shape_form (suc (suc (suc n))) t f x y p q =
     go (eqb (suc (suc (suc n))) 1) (eqb (suc (suc (suc n))) 2)
     (ne_eqb (suc (suc (suc n))) 1 (λ e. omega arith)) (ne_eqb (suc (suc (suc n))) 2 (λ e. omega arith))
   where
-    go : (a b : Bool) → a ≡ false → b ≡ false → either (not (either a (either b false))) (either (both a t) (either (both b f) false)) ≡ is_refused (elim a as (λ _. Shape) [ true ↦ x | false ↦ elim b as (λ _. Shape) [ true ↦ y | false ↦ shape.Refused refusal.Form ] ])
+    go : (a b : Bool) → a ≡ false → b ≡ false → either (not (either a (either b false))) (either (both a t) (either (both b f) false)) ≡ is_refused (elim a as (λ _. Result Shape Refusal) [ true ↦ x | false ↦ elim b as (λ _. Result Shape Refusal) [ true ↦ y | false ↦ Err refusal.Form ] ])
     go false false u v = refl
     go true b u v = let z : ◌≡◌ {A = ℕ} 0 1 = cc in clash z
     go false true u v = let z : ◌≡◌ {A = ℕ} 0 1 = cc in clash z

@@ -1,11 +1,11 @@
 -- Demand 1 of the call that tells the leaders after the first cards, proved: its refusal is the register's own.
 -- Assumes nothing.
-use Rattle.std.specs.Prelude.{ℕ, ◌≡◌, List}
+use Rattle.std.specs.Prelude.{ℕ, ◌≡◌, List, Ok, Err}
+use Rattle.refusals.specs.Numbers.{refused_at}
 use Rattle.std.proofs.Common.{subst}
 use Rattle.refusals.specs.declared.Refusal.{Refusal}
 use Rattle.farthest.specs.declared.Leaders.{Leaders}
 use Rattle.header.specs.Header.{enough}
-use Rattle.walk.specs.declared.Outcome.TheVariants as outcome
 use Rattle.cards.specs.Register.{outcome_of}
 use Rattle.prefix.specs.Prefix.{prefix_of}
 use Rattle.prefix.specs.Claim.{Keeps}
@@ -15,10 +15,10 @@ use Rattle.conditions.proofs.Exactly.{refused_exactly}
 
 module _ (bytes : List ℕ) (k : ℕ) where
   -- a refusal of the call is the register's, and its acceptance too
-  refused_whole : (r : Refusal) (place : ℕ) → prefix_of bytes k ≡ outcome.Refused r place → outcome_of bytes enough ≡ outcome.Refused r place
+  refused_whole : (r : Refusal) (place : ℕ) → prefix_of bytes k ≡ Err (refused_at r place) → outcome_of bytes enough ≡ Err (refused_at r place)
   refused_whole r place e = subst (Keeps bytes k) e (keeps bytes k)
 
-  accepted_whole : (l : Leaders) → prefix_of bytes k ≡ outcome.Accepted l → (m : Leaders) × (outcome_of bytes enough ≡ outcome.Accepted m)
+  accepted_whole : (l : Leaders) → prefix_of bytes k ≡ Ok l → (m : Leaders) × (outcome_of bytes enough ≡ Ok m)
   accepted_whole l e = (subst (Keeps bytes k) e (keeps bytes k)).0
 
 pub led_exactly : LedExactly

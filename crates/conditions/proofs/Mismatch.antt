@@ -1,6 +1,6 @@
 -- Condition 10 is what no scenario fits: the state, the dike and the cell of Exhibit B-4 that the card reads.
 -- Assumes nothing.
-use Rattle.std.specs.Prelude.{ℕ, zero, suc, ◌+◌, ◌≤◌, ◌<◌, ◌≡◌, Bool, not, List, [], ◌∷◌, eqb, get_or, ℤ, pos, negsuc}
+use Rattle.std.specs.Prelude.{ℕ, zero, suc, ◌+◌, ◌≤◌, ◌<◌, ◌≡◌, Bool, not, List, [], ◌∷◌, eqb, get_or, ℤ, pos, negsuc, Option, Some, None}
 use Rattle.std.proofs.Common.{add-zero, le_of_suc-le-suc, not-suc-le-zero, arith, ◌∙◌, ap, subst, eqb-true, ltb-false}
 use Rattle.std.proofs.Math.Path.{refl, sym, ap₂}
 use Rattle.std.proofs.Math.Bool.{true, false}
@@ -28,20 +28,14 @@ use Rattle.scenario.specs.declared.Tenths.{Tenths}
 use Rattle.scenario.specs.declared.Tenths.TheVariants.{Temperature, Concentration}
 use Rattle.scenario.specs.declared.ToxicCard.{ToxicCard}
 use Rattle.scenario.specs.declared.Scenario.{Scenario}
-use Rattle.scenario.specs.declared.Planned.{Planned}
-use Rattle.scenario.specs.declared.Planned.TheVariants as planned
 use Rattle.factors.specs.declared.Column.{Column}
 use Rattle.factors.specs.declared.Column.TheVariants.{At25, At30, At35, At40, At45, At50, Above}
-use Rattle.factors.specs.declared.Factors.{Factors}
-use Rattle.factors.specs.declared.Factors.TheVariants.{Read, Missing}
 use Rattle.scenario.specs.Plan.{vapor_of, pool_of, undiked, pooled, gas_plan, column_in, factored, liquid_plan, plan_for, plan_of}
 use Rattle.factors.specs.Factors.{of_cell, column_of}
 use Rattle.factors.specs.Factors as tabled
 use Rattle.factors.specs.Columns.{columns, place_in, closest_for, columns_closest, colder}
 use Rattle.buffer.specs.Numbers.{byte_at, two_at, four_at}
 use Rattle.fields.specs.Layout.{fields_of}
-use Rattle.form.specs.declared.StateByte.TheVariants as stateByte
-use Rattle.form.specs.declared.Held.TheVariants as held
 use Rattle.form.specs.declared.Standing.{Standing}
 use Rattle.form.specs.Form.{state_of, held_of}
 use Rattle.ranges.specs.Ranges.{signed, is_out_of_range}
@@ -89,9 +83,9 @@ is_above : (t : ℤ) → lt_z (pos 500) t ≡ true → column_of t ≡ Above
 unfolding column_of
 is_above t e = rw (e, column_of)
 
-abbrev is_missing : Factors → Bool
-is_missing (Read lf tcf) = false
-is_missing Missing = true
+abbrev is_missing : Option (ℕ × ℕ) → Bool
+is_missing (Some (lf, tcf)) = false
+is_missing None = true
 
 cell_missing : (lfa lfb : ℕ) (x : Cell) → is_missing (of_cell lfa lfb x) ≡ without_data x
 cell_missing lfa lfb (Factor n) = refl
@@ -127,9 +121,9 @@ factors_missing l t = go (lt_z (pos 500) t) refl
         ∙ ap (λ p. without_data (get_or (cells_in l.corrections) p NoData)) (place_read t e)
 
 -- what no scenario fits
-abbrev pub is_mismatch : Planned → Bool
-is_mismatch (planned.Planned s) = false
-is_mismatch planned.Mismatch = true
+abbrev pub is_mismatch : Option Scenario → Bool
+is_mismatch (Some s) = false
+is_mismatch None = true
 
 abbrev is_dike : Containment → Bool
 is_dike Open = false
@@ -138,7 +132,7 @@ is_dike (Building b) = false
 is_dike (ShedWithDoors s) = false
 
 -- byte 3 is 1 exactly for a dike
-dike_byte : (b area wall : ℕ) (c : Containment) → held_of b area wall ≡ held.Is c → eqb b 1 ≡ is_dike c
+dike_byte : (b area wall : ℕ) (c : Containment) → held_of b area wall ≡ Some c → eqb b 1 ≡ is_dike c
 dike_byte b area wall Open e = ap (λ k. eqb k 1) (held_bytes b area wall e).0
 dike_byte b area wall (Dike d) e = ap (λ k. eqb k 1) (held_bytes b area wall e).0
 dike_byte b area wall (Building d) e = ap (λ k. eqb k 1) (held_bytes b area wall e).0
@@ -154,9 +148,9 @@ pooled_fits : (b : Bool) (s t : Scenario) → false ≡ is_mismatch (pooled b s 
 pooled_fits true s t = refl
 pooled_fits false s t = refl
 
-factored_missing : (x : Factors) (card : ToxicCard) (l : liquids.Liquid) → is_missing x ≡ is_mismatch (factored x card l)
-factored_missing (Read lf tcf) card l = refl
-factored_missing Missing card l = refl
+factored_missing : (x : Option (ℕ × ℕ)) (card : ToxicCard) (l : liquids.Liquid) → is_missing x ≡ is_mismatch (factored x card l)
+factored_missing (Some (lf, tcf)) card l = refl
+factored_missing None card l = refl
 
 last_of_two : (a : Bool) → either (both a true) false ≡ a
 last_of_two true = refl
@@ -183,7 +177,7 @@ unfit gas liquid state dike cell =
     ∷ []
     )
 
-gas_unfit : (b : ℕ) (s : State) (dike cell : Bool) (card : ToxicCard) (g : gases.Gas) → (b ≡ 5 → ⊥) → state_of b ≡ stateByte.Is s → dike ≡ is_dike card.containment → unfit true false b dike cell ≡ is_mismatch (gas_plan s card g)
+gas_unfit : (b : ℕ) (s : State) (dike cell : Bool) (card : ToxicCard) (g : gases.Gas) → (b ≡ 5 → ⊥) → state_of b ≡ Some s → dike ≡ is_dike card.containment → unfit true false b dike cell ≡ is_mismatch (gas_plan s card g)
 unfolding state_of among
 gas_unfit zero s dike cell card g n e d = let z : ◌≡◌ {A = ℕ} 0 1 = cc in clash z
 gas_unfit (suc zero) s dike cell card g n e d =
@@ -197,11 +191,11 @@ gas_unfit (suc (suc (suc zero))) s dike cell card g n e d =
 gas_unfit (suc (suc (suc (suc zero)))) s dike cell card g n e d = ap (λ x. is_mismatch (gas_plan x card g)) (state_is e)
 gas_unfit (suc (suc (suc (suc (suc zero))))) s dike cell card g n e d = absurd (n refl)
 gas_unfit (suc (suc (suc (suc (suc (suc n)))))) s dike cell card g _ e d =
-    let none : state_of (suc (suc (suc (suc (suc (suc n)))))) ≡ stateByte.Unlisted = no_state_lem (suc (suc (suc (suc (suc (suc n)))))) (omega arith) in
+    let none : state_of (suc (suc (suc (suc (suc (suc n)))))) ≡ None = no_state_lem (suc (suc (suc (suc (suc (suc n)))))) (omega arith) in
     let z : ◌≡◌ {A = ℕ} 0 1 = cc in
     clash z
 
-liquid_unfit : (b : ℕ) (s : State) (dike cell : Bool) (card : ToxicCard) (l : liquids.Liquid) → (b ≡ 5 → ⊥) → state_of b ≡ stateByte.Is s → cell ≡ is_missing (tabled.factors_of l (column_in card.tenths)) → unfit false true b dike cell ≡ is_mismatch (liquid_plan s card l)
+liquid_unfit : (b : ℕ) (s : State) (dike cell : Bool) (card : ToxicCard) (l : liquids.Liquid) → (b ≡ 5 → ⊥) → state_of b ≡ Some s → cell ≡ is_missing (tabled.factors_of l (column_in card.tenths)) → unfit false true b dike cell ≡ is_mismatch (liquid_plan s card l)
 unfolding state_of among
 liquid_unfit zero s dike cell card l n e d = let z : ◌≡◌ {A = ℕ} 0 1 = cc in clash z
 liquid_unfit (suc zero) s dike cell card l n e d = ap (λ x. is_mismatch (liquid_plan x card l)) (state_is e)
@@ -212,7 +206,7 @@ liquid_unfit (suc (suc (suc (suc zero)))) s dike cell card l n e d =
     ∙ (d ∙ (factored_missing (tabled.factors_of l (column_in card.tenths)) card l ∙ ap (λ x. is_mismatch (liquid_plan x card l)) (state_is e)))
 liquid_unfit (suc (suc (suc (suc (suc zero))))) s dike cell card l n e d = absurd (n refl)
 liquid_unfit (suc (suc (suc (suc (suc (suc n)))))) s dike cell card l _ e d =
-    let none : state_of (suc (suc (suc (suc (suc (suc n)))))) ≡ stateByte.Unlisted = no_state_lem (suc (suc (suc (suc (suc (suc n)))))) (omega arith) in
+    let none : state_of (suc (suc (suc (suc (suc (suc n)))))) ≡ None = no_state_lem (suc (suc (suc (suc (suc (suc n)))))) (omega arith) in
     let z : ◌≡◌ {A = ℕ} 0 1 = cc in
     clash z
 

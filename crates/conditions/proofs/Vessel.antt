@@ -1,6 +1,6 @@
 -- The card that condition 11 speaks of is the one that the form of its bytes makes.
 -- Assumes nothing.
-use Rattle.std.specs.Prelude.{ℕ, zero, suc, ◌≡◌, Bool, true, false, List, eqb}
+use Rattle.std.specs.Prelude.{ℕ, zero, suc, ◌≡◌, Bool, true, false, List, eqb, Option, Some, None}
 use Rattle.std.proofs.Common.{arith, ◌∙◌, sym}
 use Rattle.search.specs.Laws.{clash}
 use Rattle.dispersion.specs.declared.Ground.{Ground}
@@ -14,11 +14,6 @@ use Rattle.scenario.specs.declared.ToxicCard.{ToxicCard}
 use Rattle.buffer.specs.Numbers.{byte_at}
 use Rattle.fields.specs.declared.Fields.{Fields}
 use Rattle.fields.specs.Layout.{fields_of}
-use Rattle.form.specs.declared.StateByte.{StateByte}
-use Rattle.form.specs.declared.StateByte.TheVariants as stateByte
-use Rattle.form.specs.declared.GroundByte.{GroundByte}
-use Rattle.form.specs.declared.GroundByte.TheVariants as ground_byte
-use Rattle.form.specs.declared.Held.TheVariants as held
 use Rattle.form.specs.declared.Standing.{Standing}
 use Rattle.form.specs.Form.{state_of, ground_of, open_of, held_of}
 use Rattle.form.specs.Inverse.{Stands, state_is, ground_is, held_is, not_held, where_zero, no_held}
@@ -42,11 +37,11 @@ card_with f standing entry tenths =
 abbrev pub card_from : Fields → Standing → ToxicCard
 card_from f standing = card_with f standing (substance_of f) (tenths_of f)
 
-state_in_lem : (b : ℕ) (s : State) → state_of b ≡ stateByte.Is s → state_in b ≡ s
+state_in_lem : (b : ℕ) (s : State) → state_of b ≡ Some s → state_in b ≡ s
 unfolding state_of state_in
 state_in_lem b s e = go (eqb b 1) (eqb b 2) (eqb b 3) (eqb b 4) (eqb b 5) e
   where
-    go : (p q r t u : Bool) → (elim p as (λ _. StateByte) [ true ↦ stateByte.Is Gas | false ↦ elim q as (λ _. StateByte) [ true ↦ stateByte.Is Pressurized | false ↦ elim r as (λ _. StateByte) [ true ↦ stateByte.Is Refrigerated | false ↦ elim t as (λ _. StateByte) [ true ↦ stateByte.Is Liquid | false ↦ elim u as (λ _. StateByte) [ true ↦ stateByte.Is Solution | false ↦ stateByte.Unlisted ] ] ] ] ]) ≡ stateByte.Is s → (elim p as (λ _. State) [ true ↦ Gas | false ↦ elim q as (λ _. State) [ true ↦ Pressurized | false ↦ elim r as (λ _. State) [ true ↦ Refrigerated | false ↦ elim t as (λ _. State) [ true ↦ Liquid | false ↦ Solution ] ] ] ]) ≡ s
+    go : (p q r t u : Bool) → (elim p as (λ _. Option State) [ true ↦ Some Gas | false ↦ elim q as (λ _. Option State) [ true ↦ Some Pressurized | false ↦ elim r as (λ _. Option State) [ true ↦ Some Refrigerated | false ↦ elim t as (λ _. Option State) [ true ↦ Some Liquid | false ↦ elim u as (λ _. Option State) [ true ↦ Some Solution | false ↦ None ] ] ] ] ]) ≡ Some s → (elim p as (λ _. State) [ true ↦ Gas | false ↦ elim q as (λ _. State) [ true ↦ Pressurized | false ↦ elim r as (λ _. State) [ true ↦ Refrigerated | false ↦ elim t as (λ _. State) [ true ↦ Liquid | false ↦ Solution ] ] ] ]) ≡ s
     go true q r t u x = state_is x
     go false true r t u x = state_is x
     go false false true t u x = state_is x
@@ -54,16 +49,16 @@ state_in_lem b s e = go (eqb b 1) (eqb b 2) (eqb b 3) (eqb b 4) (eqb b 5) e
     go false false false false true x = state_is x
     go false false false false false x = let z : ◌≡◌ {A = ℕ} 0 1 = cc in clash z
 
-ground_in_lem : (b : ℕ) (g : Ground) → ground_of b ≡ ground_byte.Is g → ground_in b ≡ g
+ground_in_lem : (b : ℕ) (g : Ground) → ground_of b ≡ Some g → ground_in b ≡ g
 unfolding ground_of ground_in
 ground_in_lem b g e = go (eqb b 1) (eqb b 2) e
   where
-    go : (p q : Bool) → (elim p as (λ _. GroundByte) [ true ↦ ground_byte.Is Rural | false ↦ elim q as (λ _. GroundByte) [ true ↦ ground_byte.Is Urban | false ↦ ground_byte.Unlisted ] ]) ≡ ground_byte.Is g → (elim p as (λ _. Ground) [ true ↦ Rural | false ↦ Urban ]) ≡ g
+    go : (p q : Bool) → (elim p as (λ _. Option Ground) [ true ↦ Some Rural | false ↦ elim q as (λ _. Option Ground) [ true ↦ Some Urban | false ↦ None ] ]) ≡ Some g → (elim p as (λ _. Ground) [ true ↦ Rural | false ↦ Urban ]) ≡ g
     go true q x = ground_is x
     go false true x = ground_is x
     go false false x = let z : ◌≡◌ {A = ℕ} 0 1 = cc in clash z
 
-pub held_in_lem : (b area wall : ℕ) (c : Containment) → held_of b area wall ≡ held.Is c → held_in b area wall ≡ c
+pub held_in_lem : (b area wall : ℕ) (c : Containment) → held_of b area wall ≡ Some c → held_in b area wall ≡ c
 unfolding held_of open_of held_in
 held_in_lem zero area wall c e = held_is (where_zero area (where_zero wall e))
 held_in_lem (suc zero) area wall c e = held_is e

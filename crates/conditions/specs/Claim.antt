@@ -2,11 +2,11 @@
 -- conditions, and of the register call for any bytes and any answer buffer. The theorem is `refused_exactly` of `Exactly`; the
 -- calls of comma lines have theirs in `line_conditions`.
 -- Assumes nothing.
-use Rattle.std.specs.Prelude.{ℕ, ◌<◌, ◌≡◌, refl, true, List, [], ◌∷◌, map, ◌↔◌}
+use Rattle.std.specs.Prelude.{ℕ, ◌<◌, ◌≡◌, refl, true, List, [], ◌∷◌, map, ◌↔◌, Ok, Err}
+use Rattle.refusals.specs.Numbers.{refused_at}
 use Rattle.refusals.specs.declared.Refusal.{Refusal}
 use Rattle.refusals.specs.Numbers.{number_of}
 use Rattle.farthest.specs.declared.Leaders.{Leaders}
-use Rattle.walk.specs.declared.Outcome.TheVariants as outcome
 use Rattle.cards.specs.Register.{outcome_of}
 use Rattle.conditions.specs.Conditions.{Condition, condition, only, of_register, of_card, conditions_at}
 use Rattle.conditions.specs.First.{holds_in, Names}
@@ -36,8 +36,8 @@ abbrev pub RefusedExactly : Type 0
 RefusedExactly =
     (bytes : List ℕ) (room : ℕ)
     → ExactlyBy (conditions_at bytes room)
-    (λ r place. outcome_of bytes room ≡ outcome.Refused r place)
-    ((l : Leaders) × (outcome_of bytes room ≡ outcome.Accepted l))
+    (λ r place. outcome_of bytes room ≡ Err (refused_at r place))
+    ((l : Leaders) × (outcome_of bytes room ≡ Ok l))
 
 -- the number of a line's refusal
 abbrev pub number_in : Condition → ℕ

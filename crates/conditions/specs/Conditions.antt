@@ -1,7 +1,8 @@
 -- "When a register is sent back": the condition of each number, over the bytes and the place, in document 01's words. "Demand 1
 -- counts these and later numbers with 01's" (document 02, A2): a request adds a line to `of_register` or `of_card`.
 -- Assumes nothing.
-use Rattle.std.specs.Prelude.{ℕ, zero, suc, ◌*◌, ◌-◌, Bool, true, false, not, List, [], ◌∷◌, ◌++◌, map, ltb, eqb, ℤ, pos, negsuc, get_or, length}
+use Rattle.std.specs.Prelude.{ℕ, zero, suc, ◌*◌, ◌-◌, Bool, true, false, not, List, [], ◌∷◌, ◌++◌, map, ltb, eqb, ℤ, pos, negsuc, get_or, length, Option, Some, None}
+use Rattle.scenario.specs.declared.Scenario.{Scenario}
 use Rattle.std.specs.Int.Signed.{lt_z}
 use Rattle.search.specs.Rising.{both}
 use Rattle.search.specs.Places.{either, among}
@@ -23,8 +24,6 @@ use Rattle.release.specs.declared.Containment.TheVariants.{Open, Dike, Building,
 use Rattle.which_table.specs.declared.State.{State}
 use Rattle.which_table.specs.declared.State.TheVariants.{Gas, Pressurized, Refrigerated, Liquid, Solution}
 use Rattle.scenario.specs.declared.ToxicCard.{ToxicCard}
-use Rattle.scenario.specs.declared.Planned.{Planned}
-use Rattle.scenario.specs.declared.Planned.TheVariants as planned
 use Rattle.factors.specs.Columns.{columns}
 use Rattle.scenario.specs.Plan.{plan_of}
 use Rattle.buffer.specs.Numbers.{byte_at}
@@ -234,9 +233,9 @@ toxic_card card =
     }
 
 -- the table, the rate and the endpoint are those that demand 2 gives the card
-abbrev pub beyond_plan : Planned → Ground → Bool
-beyond_plan (planned.Planned s) topography = beyond_table (get_or tables s.table unprinted) topography s.rate.0 s.endpoint
-beyond_plan planned.Mismatch topography = false
+abbrev pub beyond_plan : Option Scenario → Ground → Bool
+beyond_plan (Some s) topography = beyond_table (get_or tables s.table unprinted) topography s.rate.0 s.endpoint
+beyond_plan None topography = false
 
 -- 11: "beyond the table". Document 02, A7: "Number 11 no longer comes from a flammable card."
 unfoldable pub beyond : List ℕ → Bool

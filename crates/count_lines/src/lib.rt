@@ -4,16 +4,7 @@
 ghost use Rattle.std.specs.Prelude.{◌≡◌, ◌+◌, ◌≤◌, ◌<◌, length, drop};
 ghost use Rattle.pieces.specs.Pieces.{before};
 ghost use Rattle.comma.specs.Text.{cards_in};
-ghost use Rattle.count_lines.specs.Count.{count_from, bad_line};
-
-use comma::Line;
-
-// How many lines a text has, or the number of the first that is not well formed, counted from 1.
-#[derive(Clone, Copy)]
-pub enum Lines {
-    Good(usize),
-    Bad(usize),
-}
+ghost use Rattle.count_lines.specs.Count.{count_from};
 
 // Where the line that starts at a place ends: at its line feed, or at the end of the text.
 pub fn line_end(text: &[u8], at: usize) -> usize
@@ -25,30 +16,20 @@ pub fn line_end(text: &[u8], at: usize) -> usize
     pieces::end_of(text, at, b'\n')
 }
 
-// The first walk: every line is looked at, whatever the buffer is, so that a bad line is found before anything else.
-pub fn count_lines(text: &[u8]) -> Lines
+// The first walk: how many lines a text has, or the number of the first that is not well formed, counted from 1. Every line is looked
+// at, whatever the buffer is, so that a bad line is found before anything else.
+pub fn count_lines(text: &[u8]) -> Result<usize, usize>
     ensures { result ≡ count_from 0 (cards_in text.now) }
 {
     let mut count = 0usize;
     let mut at = 0usize;
     while at < text.len() {
         let end = line_end(text, at);
-        let line = read_line::line_of(&text[at..end]);
-        let Line::Card(_) = line else {
-            return Lines::Bad(count + 1);
-        };
+        if read_line::line_of(&text[at..end]).is_none() {
+            return Err(count + 1);
+        }
         count += 1;
         at = end + 1;
     }
-    Lines::Good(count)
-}
-
-// The line of an answer that has one.
-pub fn bad_line(lines: Lines) -> usize
-    ensures { result ≡ bad_line lines }
-{
-    match lines {
-        Lines::Good(_) => 0,
-        Lines::Bad(line) => line,
-    }
+    Ok(count)
 }

@@ -9,21 +9,18 @@ ghost use Rattle.dense.specs.PrintedDense.{rates5, endpoints5};
 ghost use Rattle.dense.specs.Grids.{dense_tables};
 
 use tables::{COLUMN_UPTO, LAST_ROW, ROW_UPTO};
-use units::Reading;
+use units::Miles;
 
 // A dense table has 27 rows.
 const ROWS: usize = 27;
 
 // One of Tables 5 to 8 at a rate in thousandths of a pound per minute and an endpoint in hundred-thousandths of mg/L. They have
 // the same rows and columns.
-pub fn read(table: u8, rate: u64, endpoint: u32) -> Reading
+pub fn read(table: u8, rate: u64, endpoint: u32) -> Option<Miles>
     requires { (4 < table) × (table ≤ 8) }
     ensures { result ≡ by_row rates5 (from_column (closest_column endpoint endpoints5) (get_or dense_tables (table - 5) [])) rate }
 {
     let place = rules::settle(&ROW_UPTO, &COLUMN_UPTO, rate, endpoint as u64);
-    let row = place.row;
-    let column = place.column;
-    let first = ROWS * (table as usize - 5);
-    let entries = tables::row_of(first + row);
-    rules::answer(LAST_ROW, rate, entries[column])
+    let entries = tables::row_of(ROWS * (table as usize - 5) + place.row);
+    rules::answer(LAST_ROW, rate, entries[place.column])
 }

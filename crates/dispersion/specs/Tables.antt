@@ -1,9 +1,8 @@
 -- Reference Tables 1 to 12 by their numbers, and what reading one of them answers. Another table is one more entry of
 -- `tables`; another form of table one more case of `Table` and of `read_in`.
 -- Assumes nothing.
-use Rattle.std.specs.Prelude.{ℕ, List, [], ◌∷◌, map, get_or}
-use Rattle.units.specs.declared.Reading.{Reading}
-use Rattle.units.specs.declared.Reading.TheVariants.{Beyond}
+use Rattle.std.specs.Prelude.{ℕ, List, [], ◌∷◌, map, get_or, Option, None}
+use Rattle.units.specs.declared.Miles.{Miles}
 use Rattle.dispersion.specs.declared.Ground.{Ground}
 use Rattle.dispersion.specs.declared.Ground.TheVariants.{Rural, Urban}
 use Rattle.rules.specs.Printed.{Mark, Range, Line, line}
@@ -52,13 +51,13 @@ column_of Rural rural urban = rural
 column_of Urban rural urban = urban
 
 -- what a table answers at a rate in thousandths of a pound per minute and an endpoint in hundred-thousandths of mg/L
-unfoldable pub read_in : Table → Ground → ℕ → ℕ → Reading
+unfoldable pub read_in : Table → Ground → ℕ → ℕ → Option Miles
 read_in (ranges table) topography rate endpoint = by_range table rate endpoint
 read_in (grid rates endpoints rows) topography rate endpoint =
     by_row rates (from_column (closest_column endpoint endpoints) rows) rate
 read_in (lines table) topography rate endpoint = by_row (map rate_of table) (map (entry_of topography) table) rate
-read_in unprinted topography rate endpoint = Beyond
+read_in unprinted topography rate endpoint = None
 
 -- what the table of a number answers
-unfoldable pub reading_of : ℕ → Ground → ℕ → ℕ → Reading
+unfoldable pub reading_of : ℕ → Ground → ℕ → ℕ → Option Miles
 reading_of table topography rate endpoint = read_in (get_or tables table unprinted) topography rate endpoint

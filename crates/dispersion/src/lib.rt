@@ -14,7 +14,7 @@ use tables::{
     LAST_9, LAST_10, LAST_11, LAST_12, RURAL_9, RURAL_10, RURAL_11, RURAL_12, UPTO_9, UPTO_10,
     UPTO_11, UPTO_12, URBAN_9, URBAN_10, URBAN_11, URBAN_12,
 };
-use units::{Miles, PoundsPerMinute, Reading};
+use units::{Miles, PoundsPerMinute};
 
 // The surroundings of a card.
 #[derive(Clone, Copy)]
@@ -38,19 +38,20 @@ fn by_row(
     urban: &[u16],
     topography: Ground,
     rate: u64,
-) -> Reading
+) -> Option<Miles>
     requires { (length rural.now ≡ length cuts.now + 1) × (length urban.now ≡ length cuts.now + 1) }
     ensures { result ≡ answered (ltb last rate) (get_or (column_of topography rural.now urban.now) (first_at_least rate cuts.now) 0) }
 {
     let row = search::first_at_least(cuts, rate);
-    match topography {
-        Ground::Rural => rules::answer(last, rate, rural[row]),
-        Ground::Urban => rules::answer(last, rate, urban[row]),
-    }
+    let entry = match topography {
+        Ground::Rural => rural[row],
+        Ground::Urban => urban[row],
+    };
+    rules::answer(last, rate, entry)
 }
 
 // Tables 1 to 4, each for one ground, whichever the card's is.
-fn neutral(table: u8, rate: u64, endpoint: u32) -> Reading
+fn neutral(table: u8, rate: u64, endpoint: u32) -> Option<Miles>
     requires { table ≤ 4 }
     ensures { (topography : Ground) → result ≡ reading_of table topography rate endpoint }
 {
@@ -59,12 +60,12 @@ fn neutral(table: u8, rate: u64, endpoint: u32) -> Reading
         2 => neutral::table_2(rate, endpoint),
         3 => neutral::table_3(rate, endpoint),
         4 => neutral::table_4(rate, endpoint),
-        _ => Reading::Beyond,
+        _ => None,
     }
 }
 
 // Tables 9 and 10, for ammonia, at whichever endpoint.
-fn ammonia(table: u8, topography: Ground, rate: u64) -> Reading
+fn ammonia(table: u8, topography: Ground, rate: u64) -> Option<Miles>
     requires { (8 < table) × (table ≤ 10) }
     ensures { (endpoint : ℕ) → result ≡ reading_of table topography rate endpoint }
 {
@@ -75,19 +76,19 @@ fn ammonia(table: u8, topography: Ground, rate: u64) -> Reading
 }
 
 // Tables 11 and 12, for chlorine and sulfur dioxide, at whichever endpoint; no table has a higher number.
-fn chlorine_sulfur(table: u8, topography: Ground, rate: u64) -> Reading
+fn chlorine_sulfur(table: u8, topography: Ground, rate: u64) -> Option<Miles>
     requires { 10 < table }
     ensures { (endpoint : ℕ) → result ≡ reading_of table topography rate endpoint }
 {
     match table {
         11 => by_row(&UPTO_11, LAST_11, &RURAL_11, &URBAN_11, topography, rate),
         12 => by_row(&UPTO_12, LAST_12, &RURAL_12, &URBAN_12, topography, rate),
-        _ => Reading::Beyond,
+        _ => None,
     }
 }
 
 // What a table answers at a rate and an endpoint in hundred-thousandths of mg/L, on the card's ground.
-pub fn read(table: u8, topography: Ground, rate: PoundsPerMinute, endpoint: u32) -> Reading
+pub fn read(table: u8, topography: Ground, rate: PoundsPerMinute, endpoint: u32) -> Option<Miles>
     ensures { result ≡ reading_of table topography rate.0 endpoint }
 {
     let thousandths = rate.0;

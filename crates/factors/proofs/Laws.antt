@@ -1,6 +1,6 @@
 -- What other layers use of a pool's factors instead of their text.
 -- Assumes nothing.
-use Rattle.std.specs.Prelude.{ℕ, ◌≤◌}
+use Rattle.std.specs.Prelude.{ℕ, ◌≤◌, Option, Some, None}
 use Rattle.std.proofs.Common.{arith}
 use Rattle.exhibits.specs.declared.Cell.{Cell}
 use Rattle.exhibits.specs.declared.Cell.TheVariants.{Factor, Lfb, NoData}
@@ -9,14 +9,12 @@ use Rattle.exhibits.specs.declared.Liquid.{Liquid}
 use Rattle.exhibits.specs.Laws.{Within, CellWithin}
 use Rattle.factors.specs.declared.Column.{Column}
 use Rattle.factors.specs.declared.Column.TheVariants.{At25, At30, At35, At40, At45, At50, Above}
-use Rattle.factors.specs.declared.Factors.{Factors}
-use Rattle.factors.specs.declared.Factors.TheVariants.{Read, Missing}
 use Rattle.factors.specs.Factors.{of_cell, factors_of}
 
 -- the factors that a pool reads are within document 01's limits
-abbrev pub FactorsWithin : Factors → Type 0
-FactorsWithin (Read lf tcf) = (lf ≤ 1_000_000) × (tcf ≤ 1_000)
-FactorsWithin Missing = Unit {0}
+abbrev pub FactorsWithin : Option (ℕ × ℕ) → Type 0
+FactorsWithin (Some (lf, tcf)) = (lf ≤ 1_000_000) × (tcf ≤ 1_000)
+FactorsWithin None = Unit {0}
 
 cell_within : (lfa lfb : ℕ) (cell : Cell) → lfa ≤ 1_000_000 → lfb ≤ 1_000_000 → CellWithin cell → FactorsWithin (of_cell lfa lfb cell)
 cell_within lfa lfb (Factor f) a b w = (a, w)

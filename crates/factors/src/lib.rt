@@ -7,13 +7,6 @@ ghost use Rattle.factors.specs.Factors.{column_of, of_cell, factors_of};
 
 use exhibits::{Cell, Liquid};
 
-// The liquid factor and the temperature factor that a pool reads, or that the exhibit has no data for it.
-#[derive(Clone, Copy)]
-pub enum Factors {
-    Read(u32, u16),
-    Missing,
-}
-
 // The columns of B-4, with 25 °C before them, and the temperatures above them all.
 #[derive(Clone, Copy)]
 pub enum Column {
@@ -58,46 +51,32 @@ pub fn closest_column(tenths: i16) -> Column
     Column::At50
 }
 
-// What a cell of B-4 makes of a liquid's factors.
-fn of_cell(lfa: u32, lfb: u32, cell: Cell) -> Factors
+// What a cell of B-4 makes of a liquid's factors: the liquid factor and the temperature factor, or none where the exhibit has no
+// data.
+fn of_cell(lfa: u32, lfb: u32, cell: Cell) -> Option<(u32, u16)>
     ensures { result ≡ of_cell lfa lfb cell }
 {
     match cell {
-        Cell::Factor(tcf) => Factors::Read(lfa, tcf),
-        Cell::Lfb => Factors::Read(lfb, 100),
-        Cell::NoData => Factors::Missing,
+        Cell::Factor(tcf) => Some((lfa, tcf)),
+        Cell::Lfb => Some((lfb, 100)),
+        Cell::NoData => None,
     }
 }
 
 // The factors that a liquid's pool reads in this column.
-pub fn factors_at(liquid: Liquid, column: Column) -> Factors
+pub fn factors_at(liquid: Liquid, column: Column) -> Option<(u32, u16)>
     ensures { result ≡ factors_of liquid column }
 {
     let lfa = liquid.lfa;
     let lfb = liquid.lfb;
     let cells = liquid.corrections;
     match column {
-        Column::Above => Factors::Read(lfb, 100),
-        Column::At25 => Factors::Read(lfa, 100),
-        Column::At30 => {
-            let cell = cells.at30;
-            of_cell(lfa, lfb, cell)
-        }
-        Column::At35 => {
-            let cell = cells.at35;
-            of_cell(lfa, lfb, cell)
-        }
-        Column::At40 => {
-            let cell = cells.at40;
-            of_cell(lfa, lfb, cell)
-        }
-        Column::At45 => {
-            let cell = cells.at45;
-            of_cell(lfa, lfb, cell)
-        }
-        Column::At50 => {
-            let cell = cells.at50;
-            of_cell(lfa, lfb, cell)
-        }
+        Column::Above => Some((lfb, 100)),
+        Column::At25 => Some((lfa, 100)),
+        Column::At30 => of_cell(lfa, lfb, cells.at30),
+        Column::At35 => of_cell(lfa, lfb, cells.at35),
+        Column::At40 => of_cell(lfa, lfb, cells.at40),
+        Column::At45 => of_cell(lfa, lfb, cells.at45),
+        Column::At50 => of_cell(lfa, lfb, cells.at50),
     }
 }

@@ -1,13 +1,13 @@
 -- What callers use of the farthest card instead of its text. Each holds of any list of answers.
 -- Assumes nothing.
-use Rattle.std.specs.Prelude.{ℕ, zero, suc, ◌≤◌, ◌<◌, ◌≡◌, refl, List, [], ◌∷◌, ◌++◌, Bool, true, false, ◌⊎◌, ◌↔◌, ltb, length, get_or}
+use Rattle.std.specs.Prelude.{ℕ, zero, suc, ◌≤◌, ◌<◌, ◌≡◌, refl, List, [], ◌∷◌, ◌++◌, Bool, true, false, ◌⊎◌, ◌↔◌, ltb, length, get_or, Option, Some, None}
+use Rattle.farthest.specs.declared.Leader.{Leader}
+use Rattle.farthest.specs.Farthest.{leader}
 use Rattle.std.proofs.Common.{le_of_suc-le-suc, not-suc-le-zero, le_refl, arith, sym, ap, subst, ◌∙◌, inl, inr, ltb-true, ltb-false}
 use Rattle.units.specs.declared.Miles.{Miles}
 use Rattle.card.specs.declared.Class.{Class}
 use Rattle.card.specs.declared.Class.TheVariants as class
 use Rattle.card.specs.declared.Answer.{Answer}
-use Rattle.farthest.specs.declared.Farthest.{Farthest}
-use Rattle.farthest.specs.declared.Farthest.TheVariants as farthest
 use Rattle.farthest.specs.declared.Leaders.{Leaders}
 use Rattle.farthest.specs.Farthest.{pick, farther, in_class, lead_in, farthest_from, farthest_of}
 use Rattle.farthest.specs.Farthest.{no_leaders, leaders_after, leaders_from, leaders_of}
@@ -16,26 +16,26 @@ use Rattle.farthest.specs.Farthest.{At, Reaches, Nearer, NoFarther, NoCard, Lead
 -- ---- one card
 
 -- the lead as it becomes: it stays, and then reaches a card of the class; or the card takes it from a nearer one
-abbrev Kept : Class → Farthest → Answer → Farthest → Type 0
+abbrev Kept : Class → Option Leader → Answer → Option Leader → Type 0
 Kept c f a g = (g ≡ f) × (a.class ≡ c → Reaches f a.distance.0)
 
-abbrev Taken : Class → Farthest → Answer → Farthest → Type 0
-Taken c f a g = (g ≡ farthest.Card a.number a.distance) × (a.class ≡ c) × Nearer f a.distance.0
+abbrev Taken : Class → Option Leader → Answer → Option Leader → Type 0
+Taken c f a g = (g ≡ Some (leader a.number a.distance)) × (a.class ≡ c) × Nearer f a.distance.0
 
 apart : class.Toxic ≡ class.Flammable → ⊥
 apart e = let z : ◌≡◌ {A = ℕ} 0 1 = cc in omega arith
 
-farther_step : (c : Class) (f : Farthest) (a : Answer) → a.class ≡ c → Kept c f a (farther f a) ⊎ Taken c f a (farther f a)
-farther_step c farthest.None a e = inr (refl, e, tt)
-farther_step c (farthest.Card n d) a e = go (ltb d.0 a.distance.0) refl
+farther_step : (c : Class) (f : Option Leader) (a : Answer) → a.class ≡ c → Kept c f a (farther f a) ⊎ Taken c f a (farther f a)
+farther_step c None a e = inr (refl, e, tt)
+farther_step c (Some lead) a e = go (ltb lead.distance.0 a.distance.0) refl
   where
-    go : (t : Bool) → ltb d.0 a.distance.0 ≡ t
-        → Kept c (farthest.Card n d) a (pick t (farthest.Card a.number a.distance) (farthest.Card n d))
-        ⊎ Taken c (farthest.Card n d) a (pick t (farthest.Card a.number a.distance) (farthest.Card n d))
-    go true h = inr (refl, e, ltb-true d.0 a.distance.0 h)
-    go false h = inl (refl, λ same. ltb-false d.0 a.distance.0 h)
+    go : (t : Bool) → ltb lead.distance.0 a.distance.0 ≡ t
+        → Kept c (Some lead) a (pick t (Some (leader a.number a.distance)) (Some lead))
+        ⊎ Taken c (Some lead) a (pick t (Some (leader a.number a.distance)) (Some lead))
+    go true h = inr (refl, e, ltb-true lead.distance.0 a.distance.0 h)
+    go false h = inl (refl, λ same. ltb-false lead.distance.0 a.distance.0 h)
 
-lead_step : (c : Class) (f : Farthest) (a : Answer) → Kept c f a (lead_in c f a) ⊎ Taken c f a (lead_in c f a)
+lead_step : (c : Class) (f : Option Leader) (a : Answer) → Kept c f a (lead_in c f a) ⊎ Taken c f a (lead_in c f a)
 lead_step c f a = go c a.class refl
   where
     go : (c k : Class) → a.class ≡ k → Kept c f a (in_class c k f (farther f a)) ⊎ Taken c f a (in_class c k f (farther f a))
@@ -46,42 +46,42 @@ lead_step c f a = go c a.class refl
 
 -- ---- nearer and reached
 
-reached_nearer : (f : Farthest) (m n : ℕ) → Reaches f m → Nearer f n → m < n
-reached_nearer farthest.None m n r h = absurd r
-reached_nearer (farthest.Card k d) m n r h = omega arith
+reached_nearer : (f : Option Leader) (m n : ℕ) → Reaches f m → Nearer f n → m < n
+reached_nearer None m n r h = absurd r
+reached_nearer (Some lead) m n r h = omega arith
 
-nearer_on : (f : Farthest) (m n : ℕ) → Nearer f m → m ≤ n → Nearer f n
-nearer_on farthest.None m n h l = tt
-nearer_on (farthest.Card k d) m n h l = omega arith
+nearer_on : (f : Option Leader) (m n : ℕ) → Nearer f m → m ≤ n → Nearer f n
+nearer_on None m n h l = tt
+nearer_on (Some lead) m n h l = omega arith
 
-further : (f : Farthest) (m n : ℕ) → m ≤ n → Reaches f n → Reaches f m
-further farthest.None m n l r = r
-further (farthest.Card k d) m n l r = omega arith
+further : (f : Option Leader) (m n : ℕ) → m ≤ n → Reaches f n → Reaches f m
+further None m n l r = r
+further (Some lead) m n l r = omega arith
 
 -- ---- 1: it reaches every card of its class
 
-lead_keeps : (c : Class) (f : Farthest) (a : Answer) (n : ℕ) → Reaches f n → Reaches (lead_in c f a) n
+lead_keeps : (c : Class) (f : Option Leader) (a : Answer) (n : ℕ) → Reaches f n → Reaches (lead_in c f a) n
 lead_keeps c f a n r = go (lead_step c f a)
   where
     go : Kept c f a (lead_in c f a) ⊎ Taken c f a (lead_in c f a) → Reaches (lead_in c f a) n
-    go (inl kept) = subst (λ (g : Farthest). Reaches g n) (sym kept.0) r
+    go (inl kept) = subst (λ (g : Option Leader). Reaches g n) (sym kept.0) r
     go (inr taken) =
         let below = reached_nearer f n a.distance.0 r taken.2 in
-        subst (λ (g : Farthest). Reaches g n) (sym taken.0) (omega (arith, below))
+        subst (λ (g : Option Leader). Reaches g n) (sym taken.0) (omega (arith, below))
 
-lead_reaches : (c : Class) (f : Farthest) (a : Answer) → a.class ≡ c → Reaches (lead_in c f a) a.distance.0
+lead_reaches : (c : Class) (f : Option Leader) (a : Answer) → a.class ≡ c → Reaches (lead_in c f a) a.distance.0
 lead_reaches c f a e = go (lead_step c f a)
   where
     go : Kept c f a (lead_in c f a) ⊎ Taken c f a (lead_in c f a) → Reaches (lead_in c f a) a.distance.0
-    go (inl kept) = subst (λ (g : Farthest). Reaches g a.distance.0) (sym kept.0) (kept.1 e)
-    go (inr taken) = subst (λ (g : Farthest). Reaches g a.distance.0) (sym taken.0) (le_refl a.distance.0)
+    go (inl kept) = subst (λ (g : Option Leader). Reaches g a.distance.0) (sym kept.0) (kept.1 e)
+    go (inr taken) = subst (λ (g : Option Leader). Reaches g a.distance.0) (sym taken.0) (le_refl a.distance.0)
 
-from_keeps : (c : Class) (xs : List Answer) (f : Farthest) (n : ℕ) → Reaches f n → Reaches (farthest_from c f xs) n
+from_keeps : (c : Class) (xs : List Answer) (f : Option Leader) (n : ℕ) → Reaches f n → Reaches (farthest_from c f xs) n
 unfolding farthest_from
 from_keeps c [] f n r = r
 from_keeps c (x ∷ xs) f n r = from_keeps c xs (lead_in c f x) n (lead_keeps c f x n r)
 
-from_reaches : (c : Class) (xs : List Answer) (f : Farthest) (i : ℕ) (a : Answer) → At xs i a → a.class ≡ c → Reaches (farthest_from c f xs) a.distance.0
+from_reaches : (c : Class) (xs : List Answer) (f : Option Leader) (i : ℕ) (a : Answer) → At xs i a → a.class ≡ c → Reaches (farthest_from c f xs) a.distance.0
 unfolding farthest_from
 from_reaches c [] f i a h e = absurd h
 from_reaches c (x ∷ xs) f zero a h e =
@@ -92,20 +92,20 @@ from_reaches c (x ∷ xs) f (suc i) a h e = from_reaches c xs (lead_in c f x) i 
 -- the farthest card of a class is at least as far as every card of the class
 pub reaches : (c : Class) (xs : List Answer) (i : ℕ) (a : Answer) → At xs i a → a.class ≡ c → Reaches (farthest_of c xs) a.distance.0
 unfolding farthest_of
-reaches c xs i a h e = from_reaches c xs farthest.None i a h e
+reaches c xs i a h e = from_reaches c xs None i a h e
 
 -- ---- 2: it is one of them, and the first so far
 
 -- a lead that began at f is f, or a card of the list that leads it and goes beyond f
-abbrev Since : Class → Farthest → List Answer → ℕ → Miles → Type 0
-Since c f xs n d = (f ≡ farthest.Card n d) ⊎ (Leads c xs n d × Nearer f d.0)
+abbrev Since : Class → Option Leader → List Answer → ℕ → Miles → Type 0
+Since c f xs n d = (f ≡ Some (leader n d)) ⊎ (Leads c xs n d × Nearer f d.0)
 
-module _ (c : Class) (f : Farthest) (x : Answer) (xs : List Answer) (n : ℕ) (d : Miles) where
+module _ (c : Class) (f : Option Leader) (x : Answer) (xs : List Answer) (n : ℕ) (d : Miles) where
   -- the first card of the list has the lead that is kept to the end
-  here : lead_in c f x ≡ farthest.Card n d → Kept c f x (lead_in c f x) ⊎ Taken c f x (lead_in c f x) → Since c f (x ∷ xs) n d
+  here : lead_in c f x ≡ Some (leader n d) → Kept c f x (lead_in c f x) ⊎ Taken c f x (lead_in c f x) → Since c f (x ∷ xs) n d
   here e (inl kept) = inl (sym kept.0 ∙ e)
   here e (inr taken) =
-      let same : farthest.Card x.number x.distance ≡ farthest.Card n d = sym taken.0 ∙ e in
+      let same : Some (leader x.number x.distance) ≡ Some (leader n d) = sym taken.0 ∙ e in
       let far : x.distance ≡ d = cc in
       inr (
         (
@@ -125,10 +125,10 @@ module _ (c : Class) (f : Farthest) (x : Answer) (xs : List Answer) (n : ℕ) (d
   -- a later card leads: the first card is nearer, and so is f
   before : Kept c f x (lead_in c f x) ⊎ Taken c f x (lead_in c f x) → Nearer (lead_in c f x) d.0 → (x.class ≡ c → x.distance.0 < d.0) × Nearer f d.0
   before (inl kept) h =
-      let near : Nearer f d.0 = subst (λ (g : Farthest). Nearer g d.0) kept.0 h in
+      let near : Nearer f d.0 = subst (λ (g : Option Leader). Nearer g d.0) kept.0 h in
       ((λ e. reached_nearer f x.distance.0 d.0 (kept.1 e) near), near)
   before (inr taken) h =
-      let near : x.distance.0 < d.0 = subst (λ (g : Farthest). Nearer g d.0) taken.0 h in
+      let near : x.distance.0 < d.0 = subst (λ (g : Option Leader). Nearer g d.0) taken.0 h in
       ((λ e. near), nearer_on f x.distance.0 d.0 taken.2 (omega arith))
 
   later : Leads c xs n d → Nearer (lead_in c f x) d.0 → Since c f (x ∷ xs) n d
@@ -153,7 +153,7 @@ module _ (c : Class) (f : Farthest) (x : Answer) (xs : List Answer) (n : ℕ) (d
       earlier near zero b l h e = subst (λ (y : Answer). y.distance.0 < d.0) (sym h) (near (ap (λ (y : Answer). y.class) (sym h) ∙ e))
       earlier near (suc j) b l h e = leads.first j b (le_of_suc-le-suc l) h e
 
-from_leads : (c : Class) (xs : List Answer) (f : Farthest) (n : ℕ) (d : Miles) → farthest_from c f xs ≡ farthest.Card n d → Since c f xs n d
+from_leads : (c : Class) (xs : List Answer) (f : Option Leader) (n : ℕ) (d : Miles) → farthest_from c f xs ≡ Some (leader n d) → Since c f xs n d
 unfolding farthest_from
 from_leads c [] f n d e = inl e
 from_leads c (x ∷ xs) f n d e = go (from_leads c xs (lead_in c f x) n d e)
@@ -163,32 +163,32 @@ from_leads c (x ∷ xs) f n d e = go (from_leads c xs (lead_in c f x) n d e)
     go (inr (leads, near)) = later c f x xs n d leads near
 
 -- the farthest card of a class is a card of the class, and every earlier one of the class is nearer
-pub leads : (c : Class) (xs : List Answer) (n : ℕ) (d : Miles) → farthest_of c xs ≡ farthest.Card n d → Leads c xs n d
+pub leads : (c : Class) (xs : List Answer) (n : ℕ) (d : Miles) → farthest_of c xs ≡ Some (leader n d) → Leads c xs n d
 unfolding farthest_of
-leads c xs n d e = go (from_leads c xs farthest.None n d e)
+leads c xs n d e = go (from_leads c xs None n d e)
   where
-    go : Since c farthest.None xs n d → Leads c xs n d
+    go : Since c None xs n d → Leads c xs n d
     go (inl never) = let z : ◌≡◌ {A = ℕ} 0 1 = cc in absurd (omega arith)
     go (inr found) = found.0
 
 -- ---- 3: none exactly when the class has no card
 
-pub none_only : (c : Class) (xs : List Answer) → farthest_of c xs ≡ farthest.None → NoCard c xs
-none_only c xs e i a h same = subst (λ (f : Farthest). Reaches f a.distance.0) e (reaches c xs i a h same)
+pub none_only : (c : Class) (xs : List Answer) → farthest_of c xs ≡ None → NoCard c xs
+none_only c xs e i a h same = subst (λ (f : Option Leader). Reaches f a.distance.0) e (reaches c xs i a h same)
 
-pub none_if : (c : Class) (xs : List Answer) → NoCard c xs → farthest_of c xs ≡ farthest.None
+pub none_if : (c : Class) (xs : List Answer) → NoCard c xs → farthest_of c xs ≡ None
 none_if c xs empty = go (farthest_of c xs) refl
   where
-    go : (f : Farthest) → farthest_of c xs ≡ f → f ≡ farthest.None
-    go farthest.None e = refl
-    go (farthest.Card n d) e = let found = leads c xs n d e in absurd (empty found.0 found.1 found.2.stands found.2.of_class)
+    go : (f : Option Leader) → farthest_of c xs ≡ f → f ≡ None
+    go None e = refl
+    go (Some lead) e = let found = leads c xs lead.number lead.distance e in absurd (empty found.0 found.1 found.2.stands found.2.of_class)
 
-pub none_iff : (c : Class) (xs : List Answer) → (farthest_of c xs ≡ farthest.None) ↔ NoCard c xs
+pub none_iff : (c : Class) (xs : List Answer) → (farthest_of c xs ≡ None) ↔ NoCard c xs
 none_iff c xs = (none_only c xs, none_if c xs)
 
 -- ---- 4: one list after another
 
-pub from_append : (c : Class) (xs ys : List Answer) (f : Farthest) → farthest_from c f (xs ++ ys) ≡ farthest_from c (farthest_from c f xs) ys
+pub from_append : (c : Class) (xs ys : List Answer) (f : Option Leader) → farthest_from c f (xs ++ ys) ≡ farthest_from c (farthest_from c f xs) ys
 unfolding farthest_from
 from_append c [] ys f = refl
 from_append c (x ∷ xs) ys f = from_append c xs ys (lead_in c f x)
@@ -233,15 +233,15 @@ pub no_farther : (c : Class) (xs ys : List Answer)
     → ((i : ℕ) (a : Answer) → At xs i a → a.class ≡ c → Matched c a.distance.0 ys) → NoFarther (farthest_of c xs) (farthest_of c ys)
 no_farther c xs ys counterpart = go (farthest_of c xs) refl
   where
-    go : (f : Farthest) → farthest_of c xs ≡ f → NoFarther f (farthest_of c ys)
-    go farthest.None e = tt
-    go (farthest.Card n d) e =
-        let found = leads c xs n d e in
+    go : (f : Option Leader) → farthest_of c xs ≡ f → NoFarther f (farthest_of c ys)
+    go None e = tt
+    go (Some lead) e =
+        let found = leads c xs lead.number lead.distance e in
         let a = found.1 in
         let other = counterpart found.0 a found.2.stands found.2.of_class in
         let b = other.1 in
-        let far : a.distance.0 ≡ d.0 = ap (λ (m : Miles). m.0) found.2.far in
-        further (farthest_of c ys) d.0 b.distance.0 (omega (arith, other.4, far)) (reaches c ys other.0 b other.2 other.3)
+        let far : a.distance.0 ≡ lead.distance.0 = ap (λ (m : Miles). m.0) found.2.far in
+        further (farthest_of c ys) lead.distance.0 b.distance.0 (omega (arith, other.4, far)) (reaches c ys other.0 b other.2 other.3)
 
 -- ---- places by number
 

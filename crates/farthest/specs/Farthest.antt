@@ -1,48 +1,51 @@
 -- The farthest card of a class among the answers of a register, and what it is to be no farther.
 -- Assumes nothing.
-use Rattle.std.specs.Prelude.{ℕ, zero, suc, ◌≤◌, ◌<◌, ◌≡◌, List, [], ◌∷◌, Bool, true, false, ltb}
+use Rattle.std.specs.Prelude.{ℕ, zero, suc, ◌≤◌, ◌<◌, ◌≡◌, List, [], ◌∷◌, Bool, true, false, ltb, Option, Some, None}
+use Rattle.farthest.specs.declared.Leader.{Leader}
 use Rattle.units.specs.declared.Miles.{Miles}
 use Rattle.card.specs.declared.Class.{Class}
 use Rattle.card.specs.declared.Class.TheVariants as class
 use Rattle.card.specs.declared.Answer.{Answer}
-use Rattle.farthest.specs.declared.Farthest.{Farthest}
-use Rattle.farthest.specs.declared.Farthest.TheVariants as farthest
 use Rattle.farthest.specs.declared.Leaders.{Leaders}
 
+-- a card that leads its class, by its number and its distance
+abbrev pub leader : ℕ → Miles → Leader
+leader n d = record { number = n; distance = d }
+
 -- the first if the test holds, else the second
-abbrev pub pick : Bool → Farthest → Farthest → Farthest
+abbrev pub pick : Bool → Option Leader → Option Leader → Option Leader
 pick true f g = f
 pick false f g = g
 
 -- "the card with the largest distance, the earlier on a tie": a card takes the lead by a larger distance alone.
 -- "Distances are compared in hundredths of a mile"
-abbrev pub farther : Farthest → Answer → Farthest
-farther farthest.None a = farthest.Card a.number a.distance
-farther (farthest.Card n d) a = pick (ltb d.0 a.distance.0) (farthest.Card a.number a.distance) (farthest.Card n d)
+abbrev pub farther : Option Leader → Answer → Option Leader
+farther None a = Some (leader a.number a.distance)
+farther (Some lead) a = pick (ltb lead.distance.0 a.distance.0) (Some (leader a.number a.distance)) (Some lead)
 
 -- the second where the classes are the same, else the first
-abbrev pub in_class : Class → Class → Farthest → Farthest → Farthest
+abbrev pub in_class : Class → Class → Option Leader → Option Leader → Option Leader
 in_class class.Toxic class.Toxic kept changed = changed
 in_class class.Flammable class.Flammable kept changed = changed
 in_class class.Toxic class.Flammable kept changed = kept
 in_class class.Flammable class.Toxic kept changed = kept
 
 -- "In each class": a card of the other class changes nothing
-abbrev pub lead_in : Class → Farthest → Answer → Farthest
+abbrev pub lead_in : Class → Option Leader → Answer → Option Leader
 lead_in c f a = in_class c a.class f (farther f a)
 
 -- the lead of a class after the cards of a list, from the lead before them
-unfoldable pub farthest_from : Class → Farthest → List Answer → Farthest
+unfoldable pub farthest_from : Class → Option Leader → List Answer → Option Leader
 farthest_from c f [] = f
 farthest_from c f (a ∷ xs) = farthest_from c (lead_in c f a) xs
 
 -- "In each class the card with the largest distance, the earlier on a tie; none if the class has no card."
-unfoldable pub farthest_of : Class → List Answer → Farthest
-farthest_of c xs = farthest_from c farthest.None xs
+unfoldable pub farthest_of : Class → List Answer → Option Leader
+farthest_of c xs = farthest_from c None xs
 
 -- "A class is kind 1 or kind 2.": the leads of both, before the first card
 abbrev pub no_leaders : Leaders
-no_leaders = record { toxic = farthest.None; flammable = farthest.None }
+no_leaders = record { toxic = None; flammable = None }
 
 -- the leads of both after one more card
 unfoldable pub leaders_after : Leaders → Answer → Leaders
@@ -64,20 +67,20 @@ At (x ∷ xs) zero a = a ≡ x
 At (x ∷ xs) (suc i) a = At xs i a
 
 -- a farthest card at least this far; "none" reaches nothing
-abbrev pub Reaches : Farthest → ℕ → Type 0
-Reaches farthest.None n = ⊥
-Reaches (farthest.Card k d) n = n ≤ d.0
+abbrev pub Reaches : Option Leader → ℕ → Type 0
+Reaches None n = ⊥
+Reaches (Some lead) n = n ≤ lead.distance.0
 
 -- a farthest card, if there is one, nearer than this
-abbrev pub Nearer : Farthest → ℕ → Type 0
-Nearer farthest.None n = Unit
-Nearer (farthest.Card k d) n = d.0 < n
+abbrev pub Nearer : Option Leader → ℕ → Type 0
+Nearer None n = Unit
+Nearer (Some lead) n = lead.distance.0 < n
 
 -- one farthest card is no farther than another: "none" is below everything, and a card's distance is reached by the other.
 -- "where the first register has a farthest card of the class and the counterparts are there, the second has one too"
-abbrev pub NoFarther : Farthest → Farthest → Type 0
-NoFarther farthest.None g = Unit
-NoFarther (farthest.Card k d) g = Reaches g d.0
+abbrev pub NoFarther : Option Leader → Option Leader → Type 0
+NoFarther None g = Unit
+NoFarther (Some lead) g = Reaches g lead.distance.0
 
 -- no card of a list is of the class
 abbrev pub NoCard : Class → List Answer → Type 0

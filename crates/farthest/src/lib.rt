@@ -7,18 +7,19 @@ ghost use Rattle.farthest.specs.Farthest.{farther, no_leaders, leaders_after};
 use card::{Answer, Class};
 use units::Miles;
 
-// The card that leads its class, by number and distance, or that the class has none so far.
+// The card that leads its class, by number and distance.
 #[derive(Clone, Copy)]
-pub enum Farthest {
-    None,
-    Card(u32, Miles),
+pub struct Leader {
+    pub number: u32,
+    pub distance: Miles,
 }
 
-// The two classes are ranked apart: a toxic distance is never held against a flammable one.
+// The leader of each class, none where it has no card so far. The two classes are ranked apart: a toxic distance is never held
+// against a flammable one.
 #[derive(Clone, Copy)]
 pub struct Leaders {
-    pub toxic: Farthest,
-    pub flammable: Farthest,
+    pub toxic: Option<Leader>,
+    pub flammable: Option<Leader>,
 }
 
 // Before the first card neither class has one.
@@ -26,25 +27,21 @@ pub fn no_leaders() -> Leaders
     ensures { result ≡ no_leaders }
 {
     Leaders {
-        toxic: Farthest::None,
-        flammable: Farthest::None,
+        toxic: None,
+        flammable: None,
     }
 }
 
 // The lead of one class after a card of that class. On a tie the earlier card keeps it.
-fn overtake(leader: Farthest, answer: Answer) -> Farthest
+fn overtake(leader: Option<Leader>, answer: Answer) -> Option<Leader>
     ensures { result ≡ farther leader answer }
 {
-    let distance = answer.distance;
     match leader {
-        Farthest::None => Farthest::Card(answer.number, distance),
-        Farthest::Card(number, best) => {
-            if dispersion::hundredths(best) < dispersion::hundredths(distance) {
-                Farthest::Card(answer.number, distance)
-            } else {
-                Farthest::Card(number, best)
-            }
-        }
+        Some(best) if answer.distance <= best.distance => Some(best),
+        _ => Some(Leader {
+            number: answer.number,
+            distance: answer.distance,
+        }),
     }
 }
 
@@ -52,17 +49,14 @@ fn overtake(leader: Farthest, answer: Answer) -> Farthest
 pub fn lead(leaders: Leaders, answer: Answer) -> Leaders
     ensures { result ≡ leaders_after leaders answer }
 {
-    let toxic = leaders.toxic;
-    let flammable = leaders.flammable;
-    let class = answer.class;
-    match class {
+    match answer.class {
         Class::Toxic => Leaders {
-            toxic: overtake(toxic, answer),
-            flammable,
+            toxic: overtake(leaders.toxic, answer),
+            ..leaders
         },
         Class::Flammable => Leaders {
-            toxic,
-            flammable: overtake(flammable, answer),
+            flammable: overtake(leaders.flammable, answer),
+            ..leaders
         },
     }
 }

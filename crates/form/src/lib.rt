@@ -10,27 +10,6 @@ use refusals::Refusal;
 use release::{Building, Containment, Dike, ShedWithDoors};
 use which_table::State;
 
-// Byte 1, taken apart.
-#[derive(Clone, Copy)]
-pub enum StateByte {
-    Is(State),
-    Unlisted,
-}
-
-// Byte 2, taken apart.
-#[derive(Clone, Copy)]
-pub enum GroundByte {
-    Is(Ground),
-    Unlisted,
-}
-
-// Byte 3 with the area and the wall, taken apart.
-#[derive(Clone, Copy)]
-pub enum Held {
-    Is(Containment),
-    Filled,
-}
-
 // How a toxic card's vessel stands.
 #[derive(Clone, Copy)]
 pub struct Standing {
@@ -44,109 +23,91 @@ pub struct Standing {
 pub enum Shape {
     Toxic(Standing),
     Flammable,
-    Refused(Refusal),
 }
 
-fn state_of(byte: u8) -> StateByte
+// Byte 1, if it is listed.
+fn state_of(byte: u8) -> Option<State>
     ensures { result ≡ state_of byte }
 {
-    if byte == 1 {
-        return StateByte::Is(State::Gas);
+    match byte {
+        1 => Some(State::Gas),
+        2 => Some(State::Pressurized),
+        3 => Some(State::Refrigerated),
+        4 => Some(State::Liquid),
+        5 => Some(State::Solution),
+        _ => None,
     }
-    if byte == 2 {
-        return StateByte::Is(State::Pressurized);
-    }
-    if byte == 3 {
-        return StateByte::Is(State::Refrigerated);
-    }
-    if byte == 4 {
-        return StateByte::Is(State::Liquid);
-    }
-    if byte == 5 {
-        return StateByte::Is(State::Solution);
-    }
-    StateByte::Unlisted
 }
 
-fn ground_of(byte: u8) -> GroundByte
+// Byte 2, if it is listed.
+fn ground_of(byte: u8) -> Option<Ground>
     ensures { result ≡ ground_of byte }
 {
-    if byte == 1 {
-        return GroundByte::Is(Ground::Rural);
+    match byte {
+        1 => Some(Ground::Rural),
+        2 => Some(Ground::Urban),
+        _ => None,
     }
-    if byte == 2 {
-        return GroundByte::Is(Ground::Urban);
-    }
-    GroundByte::Unlisted
 }
 
-fn open_of(area: u32) -> Held
+fn open_of(area: u32) -> Option<Containment>
     ensures { result ≡ Rattle.form.specs.Form.open_of area }
 {
     if area == 0 {
-        return Held::Is(Containment::Open);
+        return Some(Containment::Open);
     }
-    Held::Filled
+    None
 }
 
-fn held_of(byte: u8, area: u32, wall: u16) -> Held
+// Byte 3 with the area and the wall, if it is listed and leaves none of the two filled that it has no use for.
+fn held_of(byte: u8, area: u32, wall: u16) -> Option<Containment>
     ensures { result ≡ held_of byte area wall }
 {
     let feet = release::square_feet(area);
     if byte == 1 {
-        return Held::Is(Containment::Dike(Dike { area: feet, wall }));
+        return Some(Containment::Dike(Dike { area: feet, wall }));
     }
     if wall != 0 {
-        return Held::Filled;
+        return None;
     }
-    if byte == 2 {
-        return Held::Is(Containment::Building(Building { floor: feet }));
+    match byte {
+        0 => open_of(area),
+        2 => Some(Containment::Building(Building { floor: feet })),
+        3 => Some(Containment::ShedWithDoors(ShedWithDoors { floor: feet })),
+        _ => None,
     }
-    if byte == 0 {
-        return open_of(area);
-    }
-    if byte == 3 {
-        return Held::Is(Containment::ShedWithDoors(ShedWithDoors { floor: feet }));
-    }
-    Held::Filled
 }
 
 fn heat_fits(state: State, heat: u16) -> bool
     ensures { result ≡ heat_fits state heat }
 {
     match state {
-        State::Gas => heat == 0,
-        State::Pressurized => heat == 0,
-        State::Refrigerated => heat == 0,
-        State::Liquid => true,
-        State::Solution => true,
+        State::Gas | State::Pressurized | State::Refrigerated => heat == 0,
+        State::Liquid | State::Solution => true,
     }
 }
 
 // Bytes 1 to 3 of a toxic card, and the fields that must be zero with them.
-fn toxic_shape(f: Fields) -> Shape
+fn toxic_shape(f: Fields) -> Result<Shape, Refusal>
     ensures { result ≡ shaped_state (state_of f.state) f }
 {
-    let first = state_of(f.state);
-    let StateByte::Is(state) = first else {
-        return Shape::Refused(Refusal::Form);
+    let Some(state) = state_of(f.state) else {
+        return Err(Refusal::Form);
     };
-    let second = held_of(f.containment, f.area, f.wall);
-    let Held::Is(containment) = second else {
-        return Shape::Refused(Refusal::Form);
+    let Some(containment) = held_of(f.containment, f.area, f.wall) else {
+        return Err(Refusal::Form);
     };
-    let third = ground_of(f.topography);
-    let GroundByte::Is(topography) = third else {
-        return Shape::Refused(Refusal::Form);
+    let Some(topography) = ground_of(f.topography) else {
+        return Err(Refusal::Form);
     };
-    if heat_fits(state, f.heat) {
-        return Shape::Toxic(Standing {
-            state,
-            topography,
-            containment,
-        });
+    if !heat_fits(state, f.heat) {
+        return Err(Refusal::Form);
     }
-    Shape::Refused(Refusal::Form)
+    Ok(Shape::Toxic(Standing {
+        state,
+        topography,
+        containment,
+    }))
 }
 
 // Whether all that a flammable card leaves blank is zero.
@@ -159,16 +120,12 @@ fn is_blank(f: Fields) -> bool
 }
 
 // What kind of card the bytes make.
-pub fn shape_of(f: Fields) -> Shape
+pub fn shape_of(f: Fields) -> Result<Shape, Refusal>
     ensures { result ≡ shape_of f }
 {
-    if f.kind == 1 {
-        return toxic_shape(f);
+    match f.kind {
+        1 => toxic_shape(f),
+        2 if is_blank(f) => Ok(Shape::Flammable),
+        _ => Err(Refusal::Form),
     }
-    if f.kind == 2 {
-        if is_blank(f) {
-            return Shape::Flammable;
-        }
-    }
-    Shape::Refused(Refusal::Form)
 }

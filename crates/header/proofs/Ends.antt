@@ -1,5 +1,6 @@
 -- One law for each way out: what the tests and the calls on the way say is what the definition says.
 -- Assumes nothing.
+use Rattle.std.specs.Prelude.{Result, Ok, Err}
 use Prim.Native.Nat.{ℕ, ◌+◌, ◌*◌, ◌≤◌, ◌<◌}
 use native.Mathlib.Omega.{arith}
 use mathlib.Core.Path.{◌≡◌, ◌∙◌, refl, ap, sym}
@@ -12,8 +13,6 @@ use Rattle.search.specs.Places.{either}
 use Rattle.buffer.specs.Numbers.{byte_at, two_at, four_at}
 use Rattle.refusals.specs.declared.Refusal.{Refusal}
 use Rattle.refusals.specs.declared.Refusal.TheVariants as refusal
-use Rattle.header.specs.declared.Header.{Header}
-use Rattle.header.specs.declared.Header.TheVariants as header
 use Rattle.header.specs.Header.{bad_length, bad_version, bad_count, bad_buffer, header_of, header_refusal, Fitting}
 
 module _ (bytes : List ℕ) where
@@ -39,16 +38,16 @@ module _ (bytes : List ℕ) where
       simp (le-ltb 2_000 (two_at bytes 5) (rw e at h)) (ap (λ k. not (eqb (length bytes) (7 + 24 * k))) e)
 
   module _ (room : ℕ) where
-    pub header_length : (b : Bool) → b ≡ bad_length bytes → b ≡ true → header.Refused refusal.Length ≡ header_of bytes room
+    pub header_length : (b : Bool) → b ≡ bad_length bytes → b ≡ true → Err refusal.Length ≡ header_of bytes room
     unfolding header_of
     header_length b e q = let p : bad_length bytes ≡ true = sym e ∙ q in simp p
 
-    pub header_version : (b d : Bool) → b ≡ bad_length bytes → b ≡ false → d ≡ bad_version bytes → d ≡ true → header.Refused refusal.Version ≡ header_of bytes room
+    pub header_version : (b d : Bool) → b ≡ bad_length bytes → b ≡ false → d ≡ bad_version bytes → d ≡ true → Err refusal.Version ≡ header_of bytes room
     unfolding header_of
     header_version b d e q g r =
         let p : bad_length bytes ≡ false = sym e ∙ q in let s : bad_version bytes ≡ true = sym g ∙ r in simp (p, s)
 
-    pub header_count : (b d k : Bool) → b ≡ bad_length bytes → b ≡ false → d ≡ bad_version bytes → d ≡ false → k ≡ bad_count bytes → k ≡ true → header.Refused refusal.Count ≡ header_of bytes room
+    pub header_count : (b d k : Bool) → b ≡ bad_length bytes → b ≡ false → d ≡ bad_version bytes → d ≡ false → k ≡ bad_count bytes → k ≡ true → Err refusal.Count ≡ header_of bytes room
     unfolding header_of
     header_count b d k e q g r h m =
         let p : bad_length bytes ≡ false = sym e ∙ q in
@@ -56,7 +55,7 @@ module _ (bytes : List ℕ) where
         let t : bad_count bytes ≡ true = sym h ∙ m in
         simp (p, s, t)
 
-    pub header_buffer : (b d k : Bool) (n : ℕ) → b ≡ bad_length bytes → b ≡ false → d ≡ bad_version bytes → d ≡ false → k ≡ bad_count bytes → k ≡ false → n ≡ two_at bytes 5 → room < 16 * n → header.Refused refusal.Buffer ≡ header_of bytes room
+    pub header_buffer : (b d k : Bool) (n : ℕ) → b ≡ bad_length bytes → b ≡ false → d ≡ bad_version bytes → d ≡ false → k ≡ bad_count bytes → k ≡ false → n ≡ two_at bytes 5 → room < 16 * n → Err refusal.Buffer ≡ header_of bytes room
     unfolding header_of bad_buffer
     header_buffer b d k n e q g r h m w z =
         let p : bad_length bytes ≡ false = sym e ∙ q in
@@ -65,14 +64,14 @@ module _ (bytes : List ℕ) where
         let u : bad_buffer bytes room ≡ true = lt-ltb room (16 * two_at bytes 5) (rw w at z) in
         simp (p, s, t, u)
 
-    pub header_good : (b d k : Bool) (n : ℕ) → b ≡ bad_length bytes → b ≡ false → d ≡ bad_version bytes → d ≡ false → k ≡ bad_count bytes → k ≡ false → n ≡ two_at bytes 5 → 16 * n ≤ room → header.Good n ≡ header_of bytes room
+    pub header_good : (b d k : Bool) (n : ℕ) → b ≡ bad_length bytes → b ≡ false → d ≡ bad_version bytes → d ≡ false → k ≡ bad_count bytes → k ≡ false → n ≡ two_at bytes 5 → 16 * n ≤ room → Ok n ≡ header_of bytes room
     unfolding header_of bad_buffer
     header_good b d k n e q g r h m w z =
         let p : bad_length bytes ≡ false = sym e ∙ q in
         let s : bad_version bytes ≡ false = sym g ∙ r in
         let t : bad_count bytes ≡ false = sym h ∙ m in
         let u : bad_buffer bytes room ≡ false = le-ltb room (16 * two_at bytes 5) (rw w at z) in
-        simp (p, s, t, u) (ap header.Good w)
+        simp (p, s, t, u) (ap Ok w)
 
     pub header_fits : (k : Bool) (n : ℕ) → k ≡ bad_count bytes → k ≡ false → n ≡ two_at bytes 5 → 16 * n ≤ room → Fitting bytes room n
     unfolding bad_count
@@ -86,5 +85,5 @@ module _ (bytes : List ℕ) where
             record { cards = rw w a; register = rw w b; answers = z }
 
 -- the refusal that is handed on
-pub refusal_given : (h : Header) (r : Refusal) → h ≡ header.Refused r → r ≡ header_refusal h
+pub refusal_given : (h : Result ℕ Refusal) (r : Refusal) → h ≡ Err r → r ≡ header_refusal h
 refusal_given h r e = sym (ap header_refusal e)

@@ -1,12 +1,10 @@
 -- The header of a register and the checks 1 to 4.
 -- Assumes nothing.
-use Rattle.std.specs.Prelude.{ℕ, ◌+◌, ◌*◌, ◌≤◌, ◌≡◌, Bool, true, false, not, List, ltb, eqb, length}
+use Rattle.std.specs.Prelude.{ℕ, ◌+◌, ◌*◌, ◌≤◌, ◌≡◌, Bool, true, false, not, List, ltb, eqb, length, Result, Ok, Err}
 use Rattle.search.specs.Places.{either}
 use Rattle.buffer.specs.Numbers.{byte_at, two_at, four_at}
 use Rattle.refusals.specs.declared.Refusal.{Refusal}
 use Rattle.refusals.specs.declared.Refusal.TheVariants as refusal
-use Rattle.header.specs.declared.Header.{Header}
-use Rattle.header.specs.declared.Header.TheVariants as header
 
 -- "Four bytes: length of the whole register. One byte: version, 1. Two bytes: card count, at most 2,000. Then cards of 24
 -- bytes." "Sixteen bytes a card" in the answer buffer.
@@ -45,22 +43,22 @@ unfoldable pub bad_buffer : List ℕ → ℕ → Bool
 bad_buffer bytes room = ltb room (answer_size * count_of bytes)
 
 -- a check that refuses where its condition holds
-abbrev pub header_if : Bool → Refusal → Header → Header
-header_if true r further = header.Refused r
+abbrev pub header_if : Bool → Refusal → Result ℕ Refusal → Result ℕ Refusal
+header_if true r further = Err r
 header_if false r further = further
 
 -- "Checks run 1 to 4": the card count, or the first refusal whose condition holds
-unfoldable pub header_of : List ℕ → ℕ → Header
+unfoldable pub header_of : List ℕ → ℕ → Result ℕ Refusal
 header_of bytes room =
     header_if (bad_length bytes) refusal.Length
     (header_if (bad_version bytes) refusal.Version
     (header_if (bad_count bytes) refusal.Count
-    (header_if (bad_buffer bytes room) refusal.Buffer (header.Good (count_of bytes)))))
+    (header_if (bad_buffer bytes room) refusal.Buffer (Ok (count_of bytes)))))
 
 -- the refusal that a header gives; the last of them where it gives none
-abbrev pub header_refusal : Header → Refusal
-header_refusal (header.Good n) = refusal.Buffer
-header_refusal (header.Refused r) = r
+abbrev pub header_refusal : Result ℕ Refusal → Refusal
+header_refusal (Ok n) = refusal.Buffer
+header_refusal (Err r) = r
 
 -- what a good header says of the two lengths
 pub record Fitting (bytes : List ℕ) (room n : ℕ) : Type 0 where
@@ -68,6 +66,6 @@ pub record Fitting (bytes : List ℕ) (room n : ℕ) : Type 0 where
   pub register : length bytes ≡ header_size + card_size * n
   pub answers : answer_size * n ≤ room
 
-abbrev pub HeaderFits : List ℕ → ℕ → Header → Type 0
-HeaderFits bytes room (header.Good n) = Fitting bytes room n
-HeaderFits bytes room (header.Refused r) = Unit {0}
+abbrev pub HeaderFits : List ℕ → ℕ → Result ℕ Refusal → Type 0
+HeaderFits bytes room (Ok n) = Fitting bytes room n
+HeaderFits bytes room (Err r) = Unit {0}

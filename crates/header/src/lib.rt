@@ -2,7 +2,7 @@
 #![tactic(auto)]
 
 ghost use Rattle.std.specs.Prelude.{◌≡◌};
-ghost use Rattle.header.specs.Header.{bad_length, bad_version, bad_count, bad_buffer, header_of, header_refusal, HeaderFits};
+ghost use Rattle.header.specs.Header.{bad_length, bad_version, bad_count, bad_buffer, header_of, HeaderFits};
 
 use refusals::Refusal;
 
@@ -12,21 +12,10 @@ pub const MOST_CARDS: usize = 2_000;
 // An answer buffer for that many, so that no register is refused for the buffer.
 pub const ENOUGH: usize = 32_000;
 
-// How many cards a register has, or why it is sent back before its first card.
-#[derive(Clone, Copy)]
-pub enum Header {
-    Good(usize),
-    Refused(Refusal),
-}
-
 fn bad_length(register: &[u8]) -> bool
     ensures { result ≡ bad_length register.now }
 {
-    if register.len() < 7 {
-        return true;
-    }
-    let length = buffer::four(register, 0) as usize;
-    length != register.len()
+    register.len() < 7 || buffer::four(register, 0) as usize != register.len()
 }
 
 fn bad_version(register: &[u8]) -> bool
@@ -39,39 +28,26 @@ fn bad_count(register: &[u8]) -> bool
     ensures { result ≡ bad_count register.now }
 {
     let count = buffer::two(register, 5) as usize;
-    if MOST_CARDS < count {
-        return true;
-    }
-    register.len() != 7 + 24 * count
+    MOST_CARDS < count || register.len() != 7 + 24 * count
 }
 
-// The checks 1 to 4 in turn.
-pub fn header_of(register: &[u8], room: usize) -> Header
+// The checks 1 to 4 in turn: how many cards a register has, or why it is sent back before its first card.
+pub fn header_of(register: &[u8], room: usize) -> Result<usize, Refusal>
     ensures value { result ≡ header_of register.now room }
     ensures header_fits { HeaderFits register.now room result }
 {
     if bad_length(register) {
-        return Header::Refused(Refusal::Length);
+        return Err(Refusal::Length);
     }
     if bad_version(register) {
-        return Header::Refused(Refusal::Version);
+        return Err(Refusal::Version);
     }
     if bad_count(register) {
-        return Header::Refused(Refusal::Count);
+        return Err(Refusal::Count);
     }
     let count = buffer::two(register, 5) as usize;
     if room < 16 * count {
-        return Header::Refused(Refusal::Buffer);
+        return Err(Refusal::Buffer);
     }
-    Header::Good(count)
-}
-
-// The refusal of a header that gives one.
-pub fn header_refusal(header: Header) -> Refusal
-    ensures { result ≡ header_refusal header }
-{
-    match header {
-        Header::Good(_) => Refusal::Buffer,
-        Header::Refused(refusal) => refusal,
-    }
+    Ok(count)
 }

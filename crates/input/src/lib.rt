@@ -2,31 +2,22 @@
 // the contract says only where it lies.
 #![tactic(auto)]
 
-ghost use Rattle.std.specs.Prelude.{length};
-ghost use Rattle.input.specs.Input.{Within};
+ghost use Rattle.std.specs.Prelude.{◌≤◌, length, IfOk};
 
+use std::io;
 use std::io::Read;
 
-// How many bytes the input has, up to the buffer's length, or that it cannot be read.
-#[derive(Clone, Copy)]
-pub enum Input {
-    Bytes(usize),
-    Failed,
-}
-
-// Reads to the end of the input, or of the buffer: pipes and terminals give it in parts.
-pub fn read_all(reader: &mut impl Read, buffer: &mut [u8]) -> Input
-    ensures { Within (length buffer.new) result }
+// Reads to the end of the input, or of the buffer, and answers how many bytes came: pipes and terminals give it in parts.
+pub fn read_all(reader: &mut impl Read, buffer: &mut [u8]) -> io::Result<usize>
+    ensures { IfOk result (λ n. n ≤ length buffer.new) }
 {
     let mut done = 0usize;
     while done < buffer.len() {
-        let Ok(more) = reader.read(&mut buffer[done..]) else {
-            return Input::Failed;
-        };
+        let more = reader.read(&mut buffer[done..])?;
         if more == 0 {
-            return Input::Bytes(done);
+            return Ok(done);
         }
         done += more;
     }
-    Input::Bytes(done)
+    Ok(done)
 }

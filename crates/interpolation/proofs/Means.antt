@@ -1,14 +1,13 @@
 -- A reading of the code's arrays is the reading of the printed table: over any arrays that hold what is computed from it.
 -- Assumes nothing.
 use Rattle.std.proofs.Common.{◌≡◌, ℕ, zero, suc, ◌-◌, ◌<◌, Bool, true, false, eqb, ltb, List, length, get_or, refl, ap, ◌∙◌, arith, ltb-true}
+use Rattle.std.specs.Prelude.{Option, Some}
 use mathlib.Core.Path.{Path}
 use Rattle.search.specs.Rising.{first_at_least}
 use Rattle.rules.specs.Rules.{in_use, thousandths}
 use Rattle.rules.specs.Carried.{running, in_use_at}
 use Rattle.rules.proofs.Laws.{length_thousandths}
 use Rattle.interpolation.specs.declared.Likely.{Likely}
-use Rattle.interpolation.specs.declared.LikelyReading.{LikelyReading}
-use Rattle.interpolation.specs.declared.LikelyReading.TheVariants.{Is}
 use Rattle.interpolation.specs.Interpolation.{entry_read, between_rows, above_last, by_first, likely_at, likely_by_row}
 
 -- the entries count at the rows' places alone
@@ -29,10 +28,10 @@ module _ (rates : List ℕ) (f g : ℕ → ℕ) (rate : ℕ) (same : (i : ℕ) �
   entries_same some = go (ltb (first_at_least rate rates) (length rates)) refl
     where
       go : (b : Bool) → ltb (first_at_least rate rates) (length rates) ≡ b
-          → Path LikelyReading
-          (elim b as (λ _. LikelyReading) [ true ↦ Is (by_first (first_at_least rate rates) rates f rate) | false ↦ above_last (f (length rates - 1)) ])
-          (elim b as (λ _. LikelyReading) [ true ↦ Is (by_first (first_at_least rate rates) rates g rate) | false ↦ above_last (g (length rates - 1)) ])
-      go true e = ap Is (first_same (first_at_least rate rates) (ltb-true (first_at_least rate rates) (length rates) e))
+          → Path (Option Likely)
+          (elim b as (λ _. Option Likely) [ true ↦ Some (by_first (first_at_least rate rates) rates f rate) | false ↦ above_last (f (length rates - 1)) ])
+          (elim b as (λ _. Option Likely) [ true ↦ Some (by_first (first_at_least rate rates) rates g rate) | false ↦ above_last (g (length rates - 1)) ])
+      go true e = ap Some (first_same (first_at_least rate rates) (ltb-true (first_at_least rate rates) (length rates) e))
       go false e = ap above_last (same (length rates - 1) (omega arith))
 
 -- the rates in thousandths, and a column of entries in use

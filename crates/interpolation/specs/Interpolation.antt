@@ -2,7 +2,7 @@
 -- distances in hundredths of a mile, as whole numbers where they are printed and as 64-bit floats where they are answered.
 -- Floats and their operations are the logic's own account of IEEE 754.
 -- Assumes nothing.
-use Rattle.std.specs.Prelude.{ℕ, zero, suc, ◌-◌, true, false, List, length, pos, ◌==◌, nat_lt, slice_index, Float}
+use Rattle.std.specs.Prelude.{ℕ, zero, suc, ◌-◌, true, false, List, length, pos, ◌==◌, nat_lt, slice_index, Float, Option, Some, None}
 use Rattle.std.specs.Float.{binary64}
 use Rattle.std.specs.Float.Ieee.{add, sub, mul, div, of_int}
 use Rattle.search.specs.Rising.{first_at_least}
@@ -10,8 +10,6 @@ use Rattle.rules.specs.Rules.{mile_limit, in_use, thousandths}
 use Rattle.interpolation.specs.declared.Row.{Row}
 use Rattle.interpolation.specs.declared.Likely.{Likely}
 use Rattle.interpolation.specs.declared.Likely.TheVariants.{Printed, Interpolated, Limit}
-use Rattle.interpolation.specs.declared.LikelyReading.{LikelyReading}
-use Rattle.interpolation.specs.declared.LikelyReading.TheVariants.{Is, Beyond}
 
 -- the float of a whole number
 abbrev pub float_of : ℕ → Float
@@ -44,8 +42,8 @@ between_rows r0 d0 r1 d1 rate =
     ]
 
 -- "above the last, the rule of 11": a last entry in use of 25 miles is answered, any other is beyond the table
-unfoldable pub above_last : ℕ → LikelyReading
-above_last entry = elim (entry == mile_limit) [ true ↦ Is (Limit (float_of entry)) | false ↦ Beyond ]
+unfoldable pub above_last : ℕ → Option Likely
+above_last entry = elim (entry == mile_limit) [ true ↦ Some (Limit (float_of entry)) | false ↦ None ]
 
 -- The answer by the first row whose rate is not below the supplied one. "Below the first row, the first entry is answered"; "At a
 -- printed rate the answer is the printed entry exactly, by 01's entries in use."
@@ -58,13 +56,13 @@ by_first (suc k) rates entry rate =
     ]
 
 -- what rows of these rates, in thousandths, and these entries in use, by their places, answer at a rate
-unfoldable pub likely_at : List ℕ → (ℕ → ℕ) → ℕ → LikelyReading
+unfoldable pub likely_at : List ℕ → (ℕ → ℕ) → ℕ → Option Likely
 likely_at rates entry rate =
     elim (nat_lt (first_at_least rate rates) (length rates)) [
-      | true ↦ Is (by_first (first_at_least rate rates) rates entry rate)
+      | true ↦ Some (by_first (first_at_least rate rates) rates entry rate)
       | false ↦ above_last (entry (length rates - 1))
     ]
 
 -- a table of rows: their rates in lbs/min, and their entries as printed in the column that is read
-unfoldable pub likely_by_row : List ℕ → List ℕ → ℕ → LikelyReading
+unfoldable pub likely_by_row : List ℕ → List ℕ → ℕ → Option Likely
 likely_by_row rates entries rate = likely_at (thousandths rates) (in_use entries) rate

@@ -20,13 +20,6 @@ pub enum Likely {
     Limit(f64),
 }
 
-// What a table answers at a rate: a distance, or that the rate is beyond the table.
-#[derive(Clone, Copy)]
-pub enum LikelyReading {
-    Is(Likely),
-    Beyond,
-}
-
 // 25 miles, in hundredths.
 const MILE_LIMIT: u16 = 2500;
 
@@ -81,18 +74,19 @@ fn between(r0: u64, d0: u16, r1: u64, d1: u16, rate: u64) -> Likely
     Likely::Interpolated(interpolate(low, high, rate_float(rate)))
 }
 
-// A rate above the last row, whose entry may be the limit.
-fn above_last(last: u16) -> LikelyReading
+// A rate above the last row, whose entry may be the limit; otherwise it is beyond the table.
+fn above_last(last: u16) -> Option<Likely>
     ensures { result ≡ above_last last }
 {
     if last == MILE_LIMIT {
-        return LikelyReading::Is(Likely::Limit(distance_float(last)));
+        return Some(Likely::Limit(distance_float(last)));
     }
-    LikelyReading::Beyond
+    None
 }
 
-// A table of rows, by their rates in thousandths and the entries in use of the column that is read, at a rate.
-pub fn read(rates: &[u64], entries: &[u16], rate: u64) -> LikelyReading
+// A table of rows, by their rates in thousandths and the entries in use of the column that is read, at a rate: a distance, or none
+// where the rate is beyond the table.
+pub fn read(rates: &[u64], entries: &[u16], rate: u64) -> Option<Likely>
     requires { (0 < length rates.now) × (length entries.now ≡ length rates.now) }
     ensures { result ≡ likely_at rates.now (λ i. slice_index entries.now i) rate }
 {
@@ -102,11 +96,11 @@ pub fn read(rates: &[u64], entries: &[u16], rate: u64) -> LikelyReading
         return above_last(entries[count - 1]);
     }
     if at == 0 {
-        return LikelyReading::Is(entry(entries[0]));
+        return Some(entry(entries[0]));
     }
     if rates[at] == rate {
-        return LikelyReading::Is(entry(entries[at]));
+        return Some(entry(entries[at]));
     }
     let below = at - 1;
-    LikelyReading::Is(between(rates[below], entries[below], rates[at], entries[at], rate))
+    Some(between(rates[below], entries[below], rates[at], entries[at], rate))
 }

@@ -1,9 +1,6 @@
 // The program for likely scenarios: reads a question on standard input, one line, and prints its listing.
 #![tactic(auto)]
 
-ghost use Rattle.std.specs.Prelude.{◌≡◌, length};
-
-use input::Input;
 use std::io::Read;
 
 // An error is said on standard error; where that cannot be written either, nobody hears of it.
@@ -14,8 +11,7 @@ fn say(rt: &impl Eprint, message: &str) {
 // Reads the question, lists it into the text, and prints that. A listing that cannot be had whole is said to be none.
 fn run(rt: &(impl Print + Eprint), reader: &mut impl Read, asked: &mut [u8]) {
     let mut text = [0; 128];
-    let read = input::read_all(reader, asked);
-    let Input::Bytes(n) = read else {
+    let Ok(n) = input::read_all(reader, asked) else {
         say(rt, "likely: cannot read the question\n");
         return;
     };
@@ -26,13 +22,7 @@ fn run(rt: &(impl Print + Eprint), reader: &mut impl Read, asked: &mut [u8]) {
 }
 
 // The longest question that is looked at has 1,000 bytes, so one byte more tells that an input is too long.
-fn question_buffer() -> [u8; 1_001]
-    ensures { 1_001 ≡ length result }
-{
-    [0; 1_001]
-}
-
 fn main(rt: HostRuntime) {
-    let mut asked = question_buffer();
+    let mut asked = [0; 1_001];
     run(&rt, &mut rt.stdin(), &mut asked);
 }

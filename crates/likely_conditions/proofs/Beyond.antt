@@ -1,6 +1,9 @@
 -- Condition 11 is what a table of likely scenarios does not answer; and a scenario's endpoint is that of the exhibits.
 -- Assumes nothing.
-use Rattle.std.specs.Prelude.{ℕ, ◌-◌, ◌<◌, ◌≤◌, ◌≡◌, Bool, true, false, not, List, map, eqb, ltb, length}
+use Rattle.std.specs.Prelude.{ℕ, ◌-◌, ◌<◌, ◌≤◌, ◌≡◌, Bool, true, false, not, List, map, eqb, ltb, length, Option, Some, None}
+use Rattle.interpolation.specs.declared.Likely.{Likely}
+use Rattle.scenario.specs.declared.Scenario.{Scenario}
+use Rattle.units.specs.declared.Miles.{Miles}
 use Rattle.std.proofs.Common.{arith, ◌∙◌, sym, ⊎_elim}
 use Rattle.std.proofs.Math.Path.{refl, ap}
 use Rattle.std.proofs.Math.ListN.{get_or, length-map}
@@ -8,8 +11,6 @@ use borrow.Author.Tests.{ltb-true, lt-ltb, le-ltb}
 use Rattle.search.specs.Rising.{both, first_at_least}
 use Rattle.search.specs.Laws.{both_true, lt_or_ge, first_mono}
 use Rattle.search.specs.PlaceLaws.{every_at}
-use Rattle.units.specs.declared.Reading.{Reading}
-use Rattle.units.specs.declared.Reading.TheVariants as reading
 use Rattle.exhibits.specs.declared.Gas as gases
 use Rattle.exhibits.specs.declared.Liquid as liquids
 use Rattle.exhibits.specs.declared.Toxic.{Toxic}
@@ -26,15 +27,9 @@ use Rattle.release.specs.declared.Containment.TheVariants.{Open, Dike, Building,
 use Rattle.pool_area.specs.Pool.{beyond_dike}
 use Rattle.which_table.specs.declared.State.{State}
 use Rattle.which_table.specs.declared.State.TheVariants as state
-use Rattle.factors.specs.declared.Factors.{Factors}
-use Rattle.factors.specs.declared.Factors.TheVariants.{Read, Missing}
 use Rattle.factors.specs.Factors.{factors_of}
 use Rattle.scenario.specs.declared.ToxicCard.{ToxicCard}
-use Rattle.scenario.specs.declared.Planned.{Planned}
-use Rattle.scenario.specs.declared.Planned.TheVariants as planned
 use Rattle.scenario.specs.Plan.{vapor_of, pool_of, undiked, pooled, gas_plan, column_in, factored, liquid_plan, plan_for, plan_of}
-use Rattle.interpolation.specs.declared.LikelyReading.{LikelyReading}
-use Rattle.interpolation.specs.declared.LikelyReading.TheVariants as likely
 use Rattle.interpolation.specs.declared.Likely.TheVariants.{Limit}
 use Rattle.interpolation.specs.Interpolation.{float_of, by_first, likely_at, likely_by_row}
 use Rattle.interpolation.specs.Interpolation as rows
@@ -44,9 +39,9 @@ use Rattle.conditions.specs.Conditions.{above_last, last_in_use, beyond_table}
 use Rattle.conditions.proofs.Beyond.{is_beyond, endless, table_beyond}
 
 -- what a table does not answer
-abbrev pub is_unanswered : LikelyReading → Bool
-is_unanswered (likely.Is l) = false
-is_unanswered likely.Beyond = true
+abbrev pub is_unanswered : Option Likely → Bool
+is_unanswered (Some l) = false
+is_unanswered None = true
 
 -- above the last of some rates that climb, the search ends behind them
 above_is : (xs : List ℕ) (rate : ℕ) → climbs xs ≡ true → 0 < length xs → ltb (last_of xs) rate ≡ not (ltb (first_at_least rate xs) (length xs))
@@ -66,7 +61,7 @@ last_is : (entry : ℕ) → not (eqb entry mile_limit) ≡ is_unanswered (rows.a
 unfolding rows.above_last
 last_is entry = go (eqb entry mile_limit)
   where
-    go : (t : Bool) → not t ≡ is_unanswered (elim t as (λ _. LikelyReading) [ true ↦ likely.Is (Limit (float_of entry)) | false ↦ likely.Beyond ])
+    go : (t : Bool) → not t ≡ is_unanswered (elim t as (λ _. Option Likely) [ true ↦ Some (Limit (float_of entry)) | false ↦ None ])
     go true = refl
     go false = refl
 
@@ -76,7 +71,7 @@ unfolding likely_at
 rows_beyond xs entry rate climb some =
     ap (λ t. both t (not (eqb (entry (length xs - 1)) mile_limit))) (above_is xs rate climb some) ∙ go (ltb (first_at_least rate xs) (length xs))
   where
-    go : (t : Bool) → both (not t) (not (eqb (entry (length xs - 1)) mile_limit)) ≡ is_unanswered (elim t as (λ _. LikelyReading) [ true ↦ likely.Is (by_first (first_at_least rate xs) xs entry rate) | false ↦ rows.above_last (entry (length xs - 1)) ])
+    go : (t : Bool) → both (not t) (not (eqb (entry (length xs - 1)) mile_limit)) ≡ is_unanswered (elim t as (λ _. Option Likely) [ true ↦ Some (by_first (first_at_least rate xs) xs entry rate) | false ↦ rows.above_last (entry (length xs - 1)) ])
     go true = refl
     go false = last_is (entry (length xs - 1))
 
@@ -101,9 +96,9 @@ sound_at : (n : ℕ) → is_sound (get_or likely_tables n unprinted) ≡ true
 unfolding in_order joined climbs climbs_from thousandths uppers likely_tables
 sound_at n = every_at is_sound likely_tables unprinted refl refl n
 
-range_is : (x : Reading) → is_beyond x ≡ is_unanswered (range_read x)
-range_is (reading.Distance d) = refl
-range_is reading.Beyond = refl
+range_is : (x : Option Miles) → is_beyond x ≡ is_unanswered (range_read x)
+range_is (Some d) = refl
+range_is None = refl
 
 module _ (topography : Ground) (rate endpoint : ℕ) where
   table_unanswered : (t : Table) → in_order t ≡ true → endless t ≡ true → has_rows t ≡ true → beyond_table t topography rate endpoint ≡ is_unanswered (likely_in t topography rate endpoint)
@@ -130,9 +125,9 @@ module _ (topography : Ground) (rate endpoint : ℕ) where
 -- ---- the endpoint
 
 -- where there is a scenario, this is its endpoint
-abbrev pub EndsAt : ℕ → Planned → Type 0
-EndsAt endpoint (planned.Planned s) = s.endpoint ≡ endpoint
-EndsAt endpoint planned.Mismatch = Unit {0}
+abbrev pub EndsAt : ℕ → Option Scenario → Type 0
+EndsAt endpoint (Some s) = s.endpoint ≡ endpoint
+EndsAt endpoint None = Unit {0}
 
 undiked_ends : (c : Containment) (card : ToxicCard) (g : gases.Gas) → EndsAt g.endpoint (undiked c (vapor_of card g.endpoint g.plume))
 unfolding vapor_of
@@ -153,10 +148,10 @@ gas_ends state.Refrigerated card g = pooled_ends (beyond_dike card.quantity.0 g.
 gas_ends state.Liquid card g = tt
 gas_ends state.Solution card g = tt
 
-factored_ends : (x : Factors) (card : ToxicCard) (l : liquids.Liquid) → EndsAt l.endpoint (factored x card l)
+factored_ends : (x : Option (ℕ × ℕ)) (card : ToxicCard) (l : liquids.Liquid) → EndsAt l.endpoint (factored x card l)
 unfolding pool_of
-factored_ends (Read lf tcf) card l = refl
-factored_ends Missing card l = tt
+factored_ends (Some (lf, tcf)) card l = refl
+factored_ends None card l = tt
 
 liquid_ends : (s : State) (card : ToxicCard) (l : liquids.Liquid) → EndsAt l.endpoint (liquid_plan s card l)
 liquid_ends state.Gas card l = tt

@@ -10,7 +10,7 @@ ghost use Rattle.interpolation.specs.Interpolation.{likely_by_row};
 ghost use Rattle.likely_dense.specs.PrintedDense.{rates18, endpoints18};
 ghost use Rattle.likely_dense.specs.Columns.{dense_tables};
 
-use interpolation::LikelyReading;
+use interpolation::Likely;
 use tables::{COLUMN_UPTO, COLUMNS, RATE};
 
 // A dense table has 27 rows and 16 columns.
@@ -28,7 +28,7 @@ fn column_of(endpoint: u32) -> usize
 
 // One of Tables 18 to 21 at a rate in thousandths of a pound per minute and an endpoint in hundred-thousandths of mg/L. They have the
 // same rows and columns.
-pub fn read(table: u8, rate: u64, endpoint: u32) -> LikelyReading
+pub fn read(table: u8, rate: u64, endpoint: u32) -> Option<Likely>
     requires { (17 < table) × (table ≤ 21) }
     ensures { result ≡ likely_by_row rates18 (from_column (closest_column endpoint endpoints18) (get_or dense_tables (table - 18) [])) rate }
 {

@@ -1,7 +1,9 @@
 -- Likely scenarios as one table of questions, each a card, a rate in thousandths and a duration in minutes, and the one theorem that each
 -- is answered as its line states: the table, how the distance was found and its 64 bits, or the number of the refusal.
 -- Assumes nothing.
-use Rattle.std.specs.Prelude.{ℕ, zero, suc, ◌/◌, ◌%◌, ◌≡◌, refl, List, [], ◌∷◌, map}
+use Rattle.std.specs.Prelude.{ℕ, zero, suc, ◌/◌, ◌%◌, ◌≡◌, refl, List, [], ◌∷◌, map, Result, Ok, Err}
+use Rattle.likely_scenario.specs.declared.LikelyScenario.{LikelyScenario}
+use Rattle.refusals.specs.declared.Refusal.{Refusal}
 use Rattle.std.specs.Float.{binary64}
 use Rattle.std.specs.Float.Ieee.{sub, mul, div, of_int, to_bits}
 use Rattle.search.specs.Rising.{first_at_least}
@@ -25,8 +27,6 @@ use Rattle.interpolation.specs.declared.Likely.{Likely}
 use Rattle.interpolation.specs.declared.Likely.TheVariants.{Printed, Interpolated, Limit}
 use Rattle.interpolation.specs.Interpolation.{above_last, between_rows, entry_read, likely_at, likely_by_row}
 use Rattle.likely_tables.specs.LikelyTables.{likely_in, likely_reading, likely_tables}
-use Rattle.likely_scenario.specs.declared.LikelyAnswer.{LikelyAnswer}
-use Rattle.likely_scenario.specs.declared.LikelyAnswer.TheVariants as answer
 use Rattle.likely_scenario.specs.LikelyScenario.{bad_rate, likely_of, likely_table}
 
 -- what is answered: how the distance was found, with the table and the float's 64 bits, or a refusal by its number
@@ -134,9 +134,9 @@ distance_told table (Printed x) = printed table (to_bits binary64 x)
 distance_told table (Interpolated x) = interpolated table (to_bits binary64 x)
 distance_told table (Limit x) = limit table (to_bits binary64 x)
 
-abbrev pub answer_told : LikelyAnswer → Told
-answer_told (answer.Is s) = distance_told s.table s.distance
-answer_told (answer.Refused r) = refused (number_of r)
+abbrev pub answer_told : Result LikelyScenario Refusal → Told
+answer_told (Ok s) = distance_told s.table s.distance
+answer_told (Err r) = refused (number_of r)
 
 -- what the definition answers to a question, and what its line states
 abbrev pub answer_to : Question → Told

@@ -1,14 +1,16 @@
 -- Every distance that a likely scenario is answered is a number between 0 and 2,500, in hundredths of a mile: of any table, ground, rate
 -- and endpoint, and of any card, rate and duration. One test that computes says what this needs of all tables.
 -- Assumes nothing.
-use Rattle.std.specs.Prelude.{ℕ, zero, suc, ◌-◌, ◌^◌, ◌≤◌, ◌≡◌, refl, List, [], ◌∷◌, map, Bool, true, false, leb, eqb, get_or, drop}
+use Rattle.std.specs.Prelude.{ℕ, zero, suc, ◌-◌, ◌^◌, ◌≤◌, ◌≡◌, refl, List, [], ◌∷◌, map, Bool, true, false, leb, eqb, get_or, drop, Option, Some, None, Result, Ok, Err}
+use Rattle.interpolation.specs.declared.Likely.{Likely}
+use Rattle.likely_scenario.specs.declared.LikelyScenario.{LikelyScenario}
+use Rattle.scenario.specs.declared.Scenario.{Scenario}
+use Rattle.units.specs.declared.Miles.{Miles}
 use Rattle.std.proofs.Common.{zero-le, le_refl, arith, le-leb, leb-true}
 use Rattle.search.specs.Rising.{first_at_least, both}
 use Rattle.search.specs.Places.{every}
 use Rattle.search.specs.PlaceLaws.{every_at}
 use Rattle.search.specs.Laws.{both_true}
-use Rattle.units.specs.declared.Reading.{Reading}
-use Rattle.units.specs.declared.Reading.TheVariants as range
 use Rattle.refusals.specs.declared.Refusal.{Refusal}
 use Rattle.refusals.specs.declared.Refusal.TheVariants as refusal
 use Rattle.rules.specs.Printed.{Mark}
@@ -18,8 +20,6 @@ use Rattle.dispersion.specs.declared.Ground.{Ground}
 use Rattle.dispersion.specs.declared.Ground.TheVariants.{Rural, Urban}
 use Rattle.dispersion.specs.Tables.{Table, ranges, grid, lines, unprinted, rate_of, entry_of}
 use Rattle.scenario.specs.declared.ToxicCard.{ToxicCard}
-use Rattle.scenario.specs.declared.Planned.{Planned}
-use Rattle.scenario.specs.declared.Planned.TheVariants as planned
 use Rattle.scenario.specs.Plan.{plan_of}
 use Rattle.fields.specs.declared.Fields.{Fields}
 use Rattle.fields.specs.Layout.{fields_of}
@@ -29,12 +29,8 @@ use Rattle.form.specs.Form.{shape_of}
 use Rattle.meaning.specs.declared.Meaning.{Meaning}
 use Rattle.meaning.specs.declared.Meaning.TheVariants as meaning
 use Rattle.meaning.specs.Reading.{substance_of, toxic_meaning}
-use Rattle.interpolation.specs.declared.LikelyReading.{LikelyReading}
-use Rattle.interpolation.specs.declared.LikelyReading.TheVariants as reading
 use Rattle.interpolation.specs.Interpolation.{entry_read, likely_at, likely_by_row}
 use Rattle.likely_tables.specs.LikelyTables.{likely_tables, range_read, likely_in, likely_reading}
-use Rattle.likely_scenario.specs.declared.LikelyAnswer.{LikelyAnswer}
-use Rattle.likely_scenario.specs.declared.LikelyAnswer.TheVariants as answer
 use Rattle.likely_scenario.specs.LikelyScenario.{bad_rate, likely_table, told, planned_likely, meant_likely, shaped_likely, card_likely, unless_refused, likely_of}
 use Rattle.line_laws.specs.Numbers.{Carries, CarriesIn}
 use Rattle.line_laws.proofs.Numbers.{number_reads, in_use_within, number_by_row}
@@ -142,7 +138,7 @@ unfolding answered
 range_number false d h = entry_number d h
 range_number true d h = go (eqb d mile_limit)
   where
-    go : (t : Bool) → CarriesIn (range_read (elim t as (λ _. Reading) [ true ↦ range.Distance (record { 0 = d }) | false ↦ range.Beyond ]))
+    go : (t : Bool) → CarriesIn (range_read (elim t as (λ _. Option Miles) [ true ↦ Some (record { 0 = d }) | false ↦ None ]))
     go true = entry_number d h
     go false = tt
 
@@ -171,31 +167,31 @@ reading_number table topography rate endpoint =
 -- ---- a card's answer
 
 -- the distance that is answered is such a number; a refusal has none
-abbrev pub AnswerCarries : LikelyAnswer → Type 0
-AnswerCarries (answer.Is s) = Carries s.distance
-AnswerCarries (answer.Refused r) = Unit {0}
+abbrev pub AnswerCarries : Result LikelyScenario Refusal → Type 0
+AnswerCarries (Ok s) = Carries s.distance
+AnswerCarries (Err r) = Unit {0}
 
-told_number : (found : LikelyReading) (table : ℕ) → CarriesIn found → AnswerCarries (told found table)
-told_number (reading.Is d) table h = h
-told_number reading.Beyond table h = tt
+told_number : (found : Option Likely) (table : ℕ) → CarriesIn found → AnswerCarries (told found table)
+told_number (Some d) table h = h
+told_number None table h = tt
 
-planned_number : (p : Planned) (card : ToxicCard) (rate minutes : ℕ) → AnswerCarries (planned_likely p card rate minutes)
-planned_number (planned.Planned s) card rate minutes =
+planned_number : (p : Option Scenario) (card : ToxicCard) (rate minutes : ℕ) → AnswerCarries (planned_likely p card rate minutes)
+planned_number (Some s) card rate minutes =
     told_number (likely_reading (likely_table card minutes) card.topography rate s.endpoint) (likely_table card minutes)
     (reading_number (likely_table card minutes) card.topography rate s.endpoint)
-planned_number planned.Mismatch card rate minutes = tt
+planned_number None card rate minutes = tt
 
-meant_number : (m : Meaning) (rate minutes : ℕ) → AnswerCarries (meant_likely m rate minutes)
-meant_number (meaning.Toxic card) rate minutes = planned_number (plan_of card) card rate minutes
-meant_number (meaning.Flammable card) rate minutes = tt
-meant_number (meaning.Refused r) rate minutes = tt
+meant_number : (m : Result Meaning Refusal) (rate minutes : ℕ) → AnswerCarries (meant_likely m rate minutes)
+meant_number (Ok (meaning.Toxic card)) rate minutes = planned_number (plan_of card) card rate minutes
+meant_number (Ok (meaning.Flammable card)) rate minutes = tt
+meant_number (Err r) rate minutes = tt
 
-shaped_number : (s : Shape) (f : Fields) (rate minutes : ℕ) → AnswerCarries (shaped_likely s f rate minutes)
-shaped_number (shape.Toxic standing) f rate minutes = meant_number (toxic_meaning (substance_of f) f standing) rate minutes
-shaped_number shape.Flammable f rate minutes = tt
-shaped_number (shape.Refused r) f rate minutes = tt
+shaped_number : (s : Result Shape Refusal) (f : Fields) (rate minutes : ℕ) → AnswerCarries (shaped_likely s f rate minutes)
+shaped_number (Ok (shape.Toxic standing)) f rate minutes = meant_number (toxic_meaning (substance_of f) f standing) rate minutes
+shaped_number (Ok shape.Flammable) f rate minutes = tt
+shaped_number (Err r) f rate minutes = tt
 
-unless_number : (b : Bool) (r : Refusal) (further : LikelyAnswer) → AnswerCarries further → AnswerCarries (unless_refused b r further)
+unless_number : (b : Bool) (r : Refusal) (further : Result LikelyScenario Refusal) → AnswerCarries further → AnswerCarries (unless_refused b r further)
 unless_number true r further h = tt
 unless_number false r further h = h
 

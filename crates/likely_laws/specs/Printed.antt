@@ -2,7 +2,7 @@
 -- what is answered there, between two of them, below the first and above the last. Rates are printed in lbs/min and supplied in
 -- thousandths of them; an entry is the one in use, by document 01.
 -- Assumes nothing.
-use Rattle.std.specs.Prelude.{ℕ, zero, suc, ◌+◌, ◌-◌, ◌*◌, ◌^◌, ◌≤◌, ◌<◌, ◌≡◌, refl, List, [], ◌∷◌, Bool, true, T, leb, ltb, Float, length, get_or, drop}
+use Rattle.std.specs.Prelude.{ℕ, zero, suc, ◌+◌, ◌-◌, ◌*◌, ◌^◌, ◌≤◌, ◌<◌, ◌≡◌, refl, List, [], ◌∷◌, Bool, true, T, leb, ltb, Float, length, get_or, drop, Some}
 use Rattle.std.proofs.Common.{le_of_suc-le-suc, not-suc-le-zero, arith, sym, ap, ◌∙◌, get_or-drop}
 use Rattle.std.specs.Float.Ieee.{le}
 use borrow.Author.Tests.{ltb-true}
@@ -12,7 +12,6 @@ use Rattle.rules.specs.Rules.{mile_limit, in_use, thousandths}
 use Rattle.rules.specs.Cuts.{climbs}
 use Rattle.dispersion.specs.declared.Ground.{Ground}
 use Rattle.dispersion.specs.Tables.{Table, ranges, grid, lines, unprinted}
-use Rattle.interpolation.specs.declared.LikelyReading.TheVariants.{Is}
 use Rattle.interpolation.specs.declared.Likely.TheVariants.{Interpolated, Limit}
 use Rattle.interpolation.specs.Interpolation.{float_of, entry_read, between_rows, above_last, likely_by_row}
 use Rattle.likely_tables.specs.LikelyTables.{likely_tables, likely_in, likely_reading}
@@ -99,13 +98,13 @@ module _ (table : ℕ) (low : 17 < table) (high : table ≤ 25) where
 
     -- "At a printed rate the answer is the printed entry exactly, by 01's entries in use."
     pub at_printed : (k : ℕ) → k < length (row_rates table)
-        → likely_reading table topography (rate_at table k) endpoint ≡ Is (entry_read (entry_at table topography endpoint k))
+        → likely_reading table topography (rate_at table k) endpoint ≡ Some (entry_read (entry_at table topography endpoint k))
     at_printed k h =
         read_by_row (rate_at table k) ∙ rows.at_printed (row_rates table) (column_in table topography endpoint) climb k h
 
     -- "Below the first row, the first entry is answered"
     pub below_first : (rate : ℕ) → rate ≤ rate_at table 0
-        → likely_reading table topography rate endpoint ≡ Is (entry_read (entry_at table topography endpoint 0))
+        → likely_reading table topography rate endpoint ≡ Some (entry_read (entry_at table topography endpoint 0))
     below_first rate l =
         read_by_row rate ∙ rows.below_first (row_rates table) (column_in table topography endpoint) climb rate some_row l
 
@@ -120,19 +119,19 @@ module _ (table : ℕ) (low : 17 < table) (high : table ≤ 25) where
       -- "we interpolate between rows"
       pub between_rows_lem : (rate : ℕ) → rate_at table k < rate → rate < rate_at table (suc k)
           → likely_reading table topography rate endpoint
-          ≡ Is (between_rows (rate_at table k) (entry_at table topography endpoint k) (rate_at table (suc k)) (entry_at table topography endpoint (suc k)) rate)
+          ≡ Some (between_rows (rate_at table k) (entry_at table topography endpoint k) (rate_at table (suc k)) (entry_at table topography endpoint (suc k)) rate)
       between_rows_lem rate l u =
           read_by_row rate ∙ rows.between_rows_lem (row_rates table) (column_in table topography endpoint) climb k rate h l u
 
       -- "An entry in use of 25 miles is the limit, and so is the answer at any rate between it and the entry below."
       pub limit_at : (rate : ℕ) → rate_at table k < rate → rate < rate_at table (suc k)
-          → entry_at table topography endpoint (suc k) ≡ mile_limit → likely_reading table topography rate endpoint ≡ Is (Limit (float_of mile_limit))
+          → entry_at table topography endpoint (suc k) ≡ mile_limit → likely_reading table topography rate endpoint ≡ Some (Limit (float_of mile_limit))
       limit_at rate l u e =
           read_by_row rate ∙ rows.limit_at (row_rates table) (column_in table topography endpoint) climb k rate h l u e
 
       -- an interpolated distance lies between the two entries
       pub interpolated_between : (rate : ℕ) (x : Float) → rate_at table k < rate → rate < rate_at table (suc k)
-          → likely_reading table topography rate endpoint ≡ Is (Interpolated x)
+          → likely_reading table topography rate endpoint ≡ Some (Interpolated x)
           → T (le (float_of (entry_at table topography endpoint k)) x) × T (le x (float_of (entry_at table topography endpoint (suc k))))
       interpolated_between rate x l u e =
           rows.interpolated_between (row_rates table) (column_in table topography endpoint) climb exact within k h rate x l u
@@ -140,8 +139,8 @@ module _ (table : ℕ) (low : 17 < table) (high : table ≤ 25) where
 
       -- within one pair of rows a larger rate never gives less
       pub larger_never_less : (rate more : ℕ) (x y : Float) → rate_at table k < rate → rate ≤ more
-          → more < rate_at table (suc k) → likely_reading table topography rate endpoint ≡ Is (Interpolated x)
-          → likely_reading table topography more endpoint ≡ Is (Interpolated y) → T (le x y)
+          → more < rate_at table (suc k) → likely_reading table topography rate endpoint ≡ Some (Interpolated x)
+          → likely_reading table topography more endpoint ≡ Some (Interpolated y) → T (le x y)
       larger_never_less rate more x y l m u e f =
           rows.larger_never_less (row_rates table) (column_in table topography endpoint) climb exact within k h rate more x y l m u
           (sym (read_by_row rate) ∙ e)

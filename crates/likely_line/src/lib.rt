@@ -51,7 +51,6 @@ pub fn put_scenario(out: &mut [u8], at: usize, scenario: LikelyScenario) -> usiz
     ensures wrote { Wrote out.old out.new at result (scenario_line scenario) }
     ensures upper_bound { result ≤ at + 96 }
 {
-    let distance = scenario.distance;
     let next = decimal::put_number_then(out, at, scenario.table as u64, b' ');
-    put_likely(out, next, distance)
+    put_likely(out, next, scenario.distance)
 }

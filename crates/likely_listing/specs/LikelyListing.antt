@@ -1,27 +1,26 @@
 -- What the program for likely scenarios prints, as text: one line.
 -- Assumes nothing.
-use Rattle.std.specs.Prelude.{ℕ, List, ltb, length}
+use Rattle.std.specs.Prelude.{ℕ, List, ltb, length, Option, Some, None, Result, Ok, Err}
+use Rattle.likely_scenario.specs.declared.LikelyScenario.{LikelyScenario}
+use Rattle.refusals.specs.declared.Refusal.{Refusal}
 use Rattle.refusals.specs.declared.Refusal.TheVariants as refusal
 use Rattle.refusals.specs.Numbers.{number_of}
 use Rattle.closing.specs.Closing.{refused_line, unless_long}
 use Rattle.comma.specs.Text.{card_bytes}
 use Rattle.question.specs.declared.Question.{Question}
-use Rattle.question.specs.declared.Question.TheVariants as question
 use Rattle.question.specs.Question.{question_in}
-use Rattle.likely_scenario.specs.declared.LikelyAnswer.{LikelyAnswer}
-use Rattle.likely_scenario.specs.declared.LikelyAnswer.TheVariants as answer
 use Rattle.likely_scenario.specs.LikelyScenario.{likely_of}
 use Rattle.likely_line.specs.LikelyLine.{scenario_line}
 
 -- the scenario's line, or `refused N at 0`: no card of a register is meant
-abbrev pub answer_line : LikelyAnswer → List ℕ
-answer_line (answer.Is scenario) = scenario_line scenario
-answer_line (answer.Refused r) = refused_line (number_of r) 0
+abbrev pub answer_line : Result LikelyScenario Refusal → List ℕ
+answer_line (Ok scenario) = scenario_line scenario
+answer_line (Err r) = refused_line (number_of r) 0
 
 -- a text that is not one well-formed line is 12, whose place counts lines from 1
-abbrev pub question_line : Question → List ℕ
-question_line (question.Asked rate minutes card) = answer_line (likely_of (card_bytes card) rate minutes)
-question_line question.Malformed = refused_line (number_of refusal.Line) 1
+abbrev pub question_line : Option Question → List ℕ
+question_line (Some asked) = answer_line (likely_of (card_bytes asked.card) asked.rate asked.minutes)
+question_line None = refused_line (number_of refusal.Line) 1
 
 abbrev pub longest_text : ℕ
 longest_text = 1_000

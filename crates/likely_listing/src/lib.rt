@@ -8,7 +8,7 @@ ghost use Rattle.likely_laws.specs.Numbers.{AnswerCarries};
 ghost use Rattle.likely_listing.specs.LikelyListing.{answer_line, question_line, likely_listing};
 
 use fields::Fields;
-use likely_scenario::LikelyAnswer;
+use likely_scenario::LikelyScenario;
 use question::Question;
 use refusals::Refusal;
 
@@ -25,37 +25,36 @@ fn card_of(card: Fields) -> [u8; 24]
 }
 
 // The line of an answer.
-fn put_answer(out: &mut [u8], answer: LikelyAnswer) -> usize
+fn put_answer(out: &mut [u8], answer: Result<LikelyScenario, Refusal>) -> usize
     requires { (128 ≤ length out.old) × AnswerCarries answer }
     ensures wrote { Wrote out.old out.new 0 result (answer_line answer) }
     ensures upper_bound { result ≤ 128 }
 {
     match answer {
-        LikelyAnswer::Is(scenario) => likely_line::put_scenario(out, 0, scenario),
-        LikelyAnswer::Refused(refusal) => {
-            let number = refusals::number(refusal);
-            closing::put_refused(out, 0, number, 0)
-        }
+        Ok(scenario) => likely_line::put_scenario(out, 0, scenario),
+        Err(refusal) => closing::put_refused(out, 0, refusals::number(refusal), 0),
     }
 }
 
 // The line of a question.
-fn put_question(out: &mut [u8], question: Question) -> usize
+fn put_question(out: &mut [u8], question: Option<Question>) -> usize
     requires { 128 ≤ length out.old }
     ensures wrote { Wrote out.old out.new 0 result (question_line question) }
     ensures upper_bound { result ≤ 128 }
 {
-    match question {
-        Question::Asked(rate, minutes, card) => {
-            let bytes = card_of(card);
-            let answer = likely_scenario::likely_of(&bytes, rate as u64, minutes);
-            put_answer(out, answer)
-        }
-        Question::Malformed => {
-            let number = refusals::number(Refusal::Line);
-            closing::put_refused(out, 0, number, 1)
-        }
-    }
+    let Some(
+        Question {
+            rate,
+            minutes,
+            card,
+        },
+    ) = question
+    else {
+        return closing::put_refused(out, 0, refusals::number(Refusal::Line), 1);
+    };
+    let bytes = card_of(card);
+    let answer = likely_scenario::likely_of(&bytes, rate as u64, minutes);
+    put_answer(out, answer)
 }
 
 // The listing of any text, at the start of a lent buffer; behind it the buffer stays as it was.
@@ -66,6 +65,5 @@ pub fn list(text: &[u8], out: &mut [u8; 128]) -> usize
     if LONGEST < text.len() {
         return closing::put_too_long(out, 0);
     }
-    let question = question::question_of(text);
-    put_question(out, question)
+    put_question(out, question::question_of(text))
 }

@@ -1,15 +1,16 @@
 -- A likely scenario beside the worst: the alternative distance of a toxic card, at a rate and a duration that the reader supplies, as
 -- document 02 gives it in A6. "These answers stand outside the ring ordering."
 -- Assumes nothing.
-use Rattle.std.specs.Prelude.{ℕ, ◌+◌, Bool, true, false, List, leb, ltb, eqb}
+use Rattle.std.specs.Prelude.{ℕ, ◌+◌, Bool, true, false, List, leb, ltb, eqb, Option, Some, None, Result, Ok, Err}
+use Rattle.interpolation.specs.declared.Likely.{Likely}
+use Rattle.likely_scenario.specs.declared.LikelyScenario.{LikelyScenario}
+use Rattle.scenario.specs.declared.Scenario.{Scenario}
 use Rattle.search.specs.Places.{either}
 use Rattle.refusals.specs.declared.Refusal.{Refusal}
 use Rattle.refusals.specs.declared.Refusal.TheVariants as refusal
 use Rattle.exhibits.specs.Exhibits.{alternative_plume}
 use Rattle.which_table.specs.WhichTable.{table_of}
 use Rattle.scenario.specs.declared.ToxicCard.{ToxicCard}
-use Rattle.scenario.specs.declared.Planned.{Planned}
-use Rattle.scenario.specs.declared.Planned.TheVariants as planned
 use Rattle.scenario.specs.Plan.{plan_of}
 use Rattle.fields.specs.declared.Fields.{Fields}
 use Rattle.fields.specs.Layout.{fields_of}
@@ -19,11 +20,7 @@ use Rattle.form.specs.Form.{shape_of}
 use Rattle.meaning.specs.declared.Meaning.{Meaning}
 use Rattle.meaning.specs.declared.Meaning.TheVariants as meaning
 use Rattle.meaning.specs.Reading.{substance_of, toxic_meaning}
-use Rattle.interpolation.specs.declared.LikelyReading.{LikelyReading}
-use Rattle.interpolation.specs.declared.LikelyReading.TheVariants as reading
 use Rattle.likely_tables.specs.LikelyTables.{likely_reading}
-use Rattle.likely_scenario.specs.declared.LikelyAnswer.{LikelyAnswer}
-use Rattle.likely_scenario.specs.declared.LikelyAnswer.TheVariants as answer
 
 -- 17: "supplied rate zero or above 1,000,000,000 thousandths"
 unfoldable pub bad_rate : ℕ → Bool
@@ -37,41 +34,41 @@ likely_table card minutes =
     13 + table_of card.cas card.state (alternative_plume card.entry) card.topography (leb minutes 10)
 
 -- "above the last, the rule of 11". The answer has the number of its table beside the distance.
-abbrev pub told : LikelyReading → ℕ → LikelyAnswer
-told (reading.Is distance) table = answer.Is (record { table = table; distance = distance })
-told reading.Beyond table = answer.Refused refusal.Beyond
+abbrev pub told : Option Likely → ℕ → Result LikelyScenario Refusal
+told (Some distance) table = Ok (record { table = table; distance = distance })
+told None table = Err refusal.Beyond
 
 -- 10, "checked as ever", which is as for the card's worst case: where that has a scenario, the endpoint is its own. Its rate counts for
 -- nothing, and the supplied one is taken as it is.
-abbrev pub planned_likely : Planned → ToxicCard → ℕ → ℕ → LikelyAnswer
-planned_likely (planned.Planned s) card rate minutes =
+abbrev pub planned_likely : Option Scenario → ToxicCard → ℕ → ℕ → Result LikelyScenario Refusal
+planned_likely (Some s) card rate minutes =
     told (likely_reading (likely_table card minutes) card.topography rate s.endpoint) (likely_table card minutes)
-planned_likely planned.Mismatch card rate minutes = answer.Refused refusal.Mismatch
+planned_likely None card rate minutes = Err refusal.Mismatch
 
 -- 7, 8, 9, 14, 15 or 16, "checked as ever"
-abbrev pub meant_likely : Meaning → ℕ → ℕ → LikelyAnswer
-meant_likely (meaning.Toxic card) rate minutes = planned_likely (plan_of card) card rate minutes
-meant_likely (meaning.Flammable card) rate minutes = answer.Refused refusal.Form
-meant_likely (meaning.Refused r) rate minutes = answer.Refused r
+abbrev pub meant_likely : Result Meaning Refusal → ℕ → ℕ → Result LikelyScenario Refusal
+meant_likely (Ok (meaning.Toxic card)) rate minutes = planned_likely (plan_of card) card rate minutes
+meant_likely (Ok (meaning.Flammable card)) rate minutes = Err refusal.Form
+meant_likely (Err r) rate minutes = Err r
 
 -- 6: "a flammable one is 6", whatever else is wrong with it
-abbrev pub shaped_likely : Shape → Fields → ℕ → ℕ → LikelyAnswer
-shaped_likely (shape.Toxic standing) f rate minutes = meant_likely (toxic_meaning (substance_of f) f standing) rate minutes
-shaped_likely shape.Flammable f rate minutes = answer.Refused refusal.Form
-shaped_likely (shape.Refused r) f rate minutes = answer.Refused r
+abbrev pub shaped_likely : Result Shape Refusal → Fields → ℕ → ℕ → Result LikelyScenario Refusal
+shaped_likely (Ok (shape.Toxic standing)) f rate minutes = meant_likely (toxic_meaning (substance_of f) f standing) rate minutes
+shaped_likely (Ok shape.Flammable) f rate minutes = Err refusal.Form
+shaped_likely (Err r) f rate minutes = Err r
 
 -- a card, by its bytes
-abbrev pub card_likely : List ℕ → ℕ → ℕ → LikelyAnswer
+abbrev pub card_likely : List ℕ → ℕ → ℕ → Result LikelyScenario Refusal
 card_likely card rate minutes = shaped_likely (shape_of (fields_of card)) (fields_of card) rate minutes
 
 -- a check that refuses where its condition holds
-abbrev pub unless_refused : Bool → Refusal → LikelyAnswer → LikelyAnswer
-unless_refused true r further = answer.Refused r
+abbrev pub unless_refused : Bool → Refusal → Result LikelyScenario Refusal → Result LikelyScenario Refusal
+unless_refused true r further = Err r
 unless_refused false r further = further
 
 -- "for a toxic card of 24 bytes (checked as ever but for 5 and 11 ..), at a rate in thousandths and a duration in whole minutes that the
 -- reader supplies"; "17 then 18 come before every other check". The number of the card counts for nothing.
-unfoldable pub likely_of : List ℕ → ℕ → ℕ → LikelyAnswer
+unfoldable pub likely_of : List ℕ → ℕ → ℕ → Result LikelyScenario Refusal
 likely_of card rate minutes =
     unless_refused (bad_rate rate) refusal.SuppliedRate
     (unless_refused (eqb minutes 0) refusal.SuppliedDuration

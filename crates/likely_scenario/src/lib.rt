@@ -9,10 +9,10 @@ ghost use Rattle.likely_scenario.specs.LikelyScenario.{bad_rate, likely_table, t
 
 use exhibits::{Plume, Toxic};
 use form::Shape;
-use interpolation::{Likely, LikelyReading};
+use interpolation::Likely;
 use meaning::Meaning;
 use refusals::Refusal;
-use scenario::{Planned, ToxicCard};
+use scenario::ToxicCard;
 use units::PoundsPerMinute;
 
 // A likely scenario: the reference table that serves it, and its distance.
@@ -20,13 +20,6 @@ use units::PoundsPerMinute;
 pub struct LikelyScenario {
     pub table: u8,
     pub distance: Likely,
-}
-
-// A card's likely scenario, or why it is sent back.
-#[derive(Clone, Copy)]
-pub enum LikelyAnswer {
-    Is(LikelyScenario),
-    Refused(Refusal),
 }
 
 // What a supplied rate may be at most, in thousandths of a pound per minute.
@@ -38,7 +31,7 @@ const ABOVE_WORST_CASE: u8 = 13;
 fn bad_rate(rate: u64) -> bool
     ensures { result ≡ bad_rate rate }
 {
-    if rate == 0 { true } else { LARGEST_RATE < rate }
+    !(1..=LARGEST_RATE).contains(&rate)
 }
 
 // The plume of the alternative case: a gas has the one of B-1, a liquid or a solution that of its alternative-case column.
@@ -49,8 +42,7 @@ fn alternative_plume(entry: Toxic) -> Plume
         Toxic::OfGas(gas) => gas.plume,
         Toxic::OfLiquid(liquid) => liquid.alternative,
         Toxic::OfSolution(solution) => solution.alternative,
-        Toxic::OutOfRange => Plume::Neutral,
-        Toxic::NotListed => Plume::Neutral,
+        Toxic::OutOfRange | Toxic::NotListed => Plume::Neutral,
     }
 }
 
@@ -58,76 +50,76 @@ fn alternative_plume(entry: Toxic) -> Plume
 fn likely_table(card: ToxicCard, minutes: u32) -> u8
     ensures { result ≡ likely_table card minutes }
 {
-    let entry = card.entry;
-    let state = card.state;
-    let topography = card.topography;
-    let plume = alternative_plume(entry);
-    ABOVE_WORST_CASE + which_table::table(card.cas, state, plume, topography, minutes <= 10)
+    let plume = alternative_plume(card.entry);
+    let worst = which_table::table(card.cas, card.state, plume, card.topography, minutes <= 10);
+    ABOVE_WORST_CASE + worst
 }
 
 // What a reading tells, with its table.
-fn tell(found: LikelyReading, table: u8) -> LikelyAnswer
+fn tell(found: Option<Likely>, table: u8) -> Result<LikelyScenario, Refusal>
     ensures { result ≡ told found table }
 {
-    match found {
-        LikelyReading::Is(distance) => LikelyAnswer::Is(LikelyScenario { table, distance }),
-        LikelyReading::Beyond => LikelyAnswer::Refused(Refusal::Beyond),
-    }
+    let Some(distance) = found else {
+        return Err(Refusal::Beyond);
+    };
+    Ok(LikelyScenario { table, distance })
 }
 
 // A toxic card that has been read: its worst case has to have a scenario, whose endpoint is this one's.
-fn planned_likely(card: ToxicCard, rate: PoundsPerMinute, minutes: u32) -> LikelyAnswer
+fn planned_likely(
+    card: ToxicCard,
+    rate: PoundsPerMinute,
+    minutes: u32,
+) -> Result<LikelyScenario, Refusal>
     requires { Limits card }
     ensures { result ≡ planned_likely (plan_of card) card rate.0 minutes }
 {
-    let plan = scenario::plan(card);
-    let Planned::Planned(worst) = plan else {
-        return LikelyAnswer::Refused(Refusal::Mismatch);
+    let Some(worst) = scenario::plan(card) else {
+        return Err(Refusal::Mismatch);
     };
-    let topography = card.topography;
     let table = likely_table(card, minutes);
-    let found = likely_tables::read(table, topography, rate, worst.endpoint);
+    let found = likely_tables::read(table, card.topography, rate, worst.endpoint);
     tell(found, table)
 }
 
 // A card's meaning; a flammable card has no likely scenario.
-fn meant_likely(found: Meaning, rate: PoundsPerMinute, minutes: u32) -> LikelyAnswer
+fn meant_likely(
+    found: Result<Meaning, Refusal>,
+    rate: PoundsPerMinute,
+    minutes: u32,
+) -> Result<LikelyScenario, Refusal>
     requires { MeaningLimits found }
     ensures { result ≡ meant_likely found rate.0 minutes }
 {
-    match found {
+    match found? {
         Meaning::Toxic(card) => planned_likely(card, rate, minutes),
-        Meaning::Flammable(_) => LikelyAnswer::Refused(Refusal::Form),
-        Meaning::Refused(refusal) => LikelyAnswer::Refused(refusal),
+        Meaning::Flammable(_) => Err(Refusal::Form),
     }
 }
 
 // A card, once the rate and the minutes are found sound.
-fn of_card(card: &[u8], rate: u64, minutes: u32) -> LikelyAnswer
+fn of_card(card: &[u8], rate: u64, minutes: u32) -> Result<LikelyScenario, Refusal>
     ensures { result ≡ card_likely card.now rate minutes }
 {
     let f = fields::fields_of(card);
-    let shape = form::shape_of(f);
-    match shape {
+    match form::shape_of(f)? {
         Shape::Toxic(standing) => {
             let found = meaning::toxic_meaning(f, standing);
-            let supplied = release::supplied_rate(rate);
-            meant_likely(found, supplied, minutes)
+            meant_likely(found, release::supplied_rate(rate), minutes)
         }
-        Shape::Flammable => LikelyAnswer::Refused(Refusal::Form),
-        Shape::Refused(refusal) => LikelyAnswer::Refused(refusal),
+        Shape::Flammable => Err(Refusal::Form),
     }
 }
 
 // The likely scenario of a card's 24 bytes at a supplied rate, in thousandths of a pound per minute, and a supplied duration.
-pub fn likely_of(card: &[u8; 24], rate: u64, minutes: u32) -> LikelyAnswer
+pub fn likely_of(card: &[u8; 24], rate: u64, minutes: u32) -> Result<LikelyScenario, Refusal>
     ensures { result ≡ likely_of card.now rate minutes }
 {
     if bad_rate(rate) {
-        return LikelyAnswer::Refused(Refusal::SuppliedRate);
+        return Err(Refusal::SuppliedRate);
     }
     if minutes == 0 {
-        return LikelyAnswer::Refused(Refusal::SuppliedDuration);
+        return Err(Refusal::SuppliedDuration);
     }
     of_card(card, rate, minutes)
 }

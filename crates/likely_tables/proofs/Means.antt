@@ -1,6 +1,7 @@
 -- A reading of the code's arrays is the reading of the printed table, for Tables 22 to 25: over any arrays that hold what is
 -- computed from it. A dense table's reading is its number's, and a number that no table of likely scenarios has is beyond.
 -- Assumes nothing.
+use Rattle.std.specs.Prelude.{Option, Some, None}
 use Prim.Native.Nat.{ℕ, zero, suc, ◌+◌, ◌-◌, ◌≤◌, ◌<◌}
 use native.Mathlib.Nat.{le_of_suc-le-suc, not-suc-le-zero}
 use native.Mathlib.Omega.{arith}
@@ -8,8 +9,6 @@ use mathlib.Core.Path.{◌≡◌, refl, ap, sym, ◌∙◌}
 use mathlib.Core.List.{List, [], map}
 use lib.ListN.{length, get_or, length-map, get_or-eq_default}
 use Rattle.units.specs.declared.Miles.{Miles}
-use Rattle.units.specs.declared.Reading.{Reading}
-use Rattle.units.specs.declared.Reading.TheVariants.{Distance}
 use Rattle.rules.specs.Printed.{Line}
 use Rattle.rules.specs.Rules.{from_column, thousandths, closest_column}
 use Rattle.rules.specs.Carried.{running}
@@ -17,8 +16,6 @@ use Rattle.dispersion.specs.declared.Ground.{Ground}
 use Rattle.dispersion.specs.declared.Ground.TheVariants.{Rural, Urban}
 use Rattle.dispersion.specs.Tables.{lines, unprinted, column_of, rate_of, entry_of}
 use Rattle.interpolation.specs.declared.Likely.{Likely}
-use Rattle.interpolation.specs.declared.LikelyReading.{LikelyReading}
-use Rattle.interpolation.specs.declared.LikelyReading.TheVariants.{Is, Beyond}
 use Rattle.interpolation.specs.Interpolation.{entry_read, likely_at, likely_by_row}
 use Rattle.interpolation.proofs.Means.{carried_means}
 use Rattle.likely_dense.specs.PrintedDense.{rates18, endpoints18}
@@ -60,7 +57,7 @@ dense_reading table low high topography rate endpoint =
     dense_table k (omega arith) topography rate endpoint ∙ ap (λ n. likely_reading n topography rate endpoint) t
 
 -- the column of each ground
-module _ (rates rural urban : List ℕ) (topography : Ground) (rate : ℕ) (r : LikelyReading) where
+module _ (rates rural urban : List ℕ) (topography : Ground) (rate : ℕ) (r : Option Likely) where
   pub by_rural : topography ≡ Rural → r ≡ likely_at rates (λ i. get_or rural i 0) rate
       → r ≡ likely_at rates (λ i. get_or (column_of topography rural urban) i 0) rate
   by_rural e q = rw e q
@@ -70,20 +67,20 @@ module _ (rates rural urban : List ℕ) (topography : Ground) (rate : ℕ) (r : 
   by_urban e q = rw e q
 
 -- a range's entry, and a range once it is read
-pub range_entry : (found : Reading) (d : Miles) (n : ℕ) (l : Likely) → found ≡ Distance d → n ≡ d.0 → l ≡ entry_read n → Is l ≡ range_read found
-range_entry found d n l e q h = ap Is (h ∙ ap entry_read q) ∙ sym (ap range_read e)
+pub range_entry : (found : Option Miles) (d : Miles) (n : ℕ) (l : Likely) → found ≡ Some d → n ≡ d.0 → l ≡ entry_read n → Some l ≡ range_read found
+range_entry found d n l e q h = ap Some (h ∙ ap entry_read q) ∙ sym (ap range_read e)
 
-pub range_is : (r : LikelyReading) (found printed : Reading) → r ≡ range_read found → found ≡ printed → r ≡ range_read printed
+pub range_is : (r : Option Likely) (found printed : Option Miles) → r ≡ range_read found → found ≡ printed → r ≡ range_read printed
 range_is r found printed e q = e ∙ ap range_read q
 
 -- below 14 and above 25 there is nothing to read
-pub none_below : (table : ℕ) (topography : Ground) (rate endpoint : ℕ) → table ≤ 13 → Beyond ≡ likely_reading table topography rate endpoint
+pub none_below : (table : ℕ) (topography : Ground) (rate endpoint : ℕ) → table ≤ 13 → None ≡ likely_reading table topography rate endpoint
 unfolding likely_reading likely_in likely_tables
 none_below table topography rate endpoint h =
     let z : table - 13 ≡ 0 = omega arith in
     ap (λ n. likely_in (get_or likely_tables n unprinted) topography rate endpoint) (sym z)
 
-pub none_above : (table : ℕ) (topography : Ground) (rate endpoint : ℕ) → 25 < table → Beyond ≡ likely_reading table topography rate endpoint
+pub none_above : (table : ℕ) (topography : Ground) (rate endpoint : ℕ) → 25 < table → None ≡ likely_reading table topography rate endpoint
 unfolding likely_reading likely_in likely_tables
 none_above table topography rate endpoint h =
     ap (λ t. likely_in t topography rate endpoint) (sym (get_or-eq_default likely_tables unprinted {n = table - 13} (omega arith)))

@@ -11,27 +11,23 @@ ghost use Rattle.interpolation.specs.Interpolation.{likely_at};
 ghost use Rattle.likely_tables.specs.LikelyTables.{range_read, likely_reading};
 
 use dispersion::Ground;
-use interpolation::LikelyReading;
+use interpolation::Likely;
 use tables::{
     RATE_22, RATE_23, RATE_24, RATE_25, RURAL_22, RURAL_23, RURAL_24, RURAL_25, URBAN_22, URBAN_23,
     URBAN_24, URBAN_25,
 };
-use units::{PoundsPerMinute, Reading};
+use units::{Miles, PoundsPerMinute};
 
 // What a range answers: its entry in use, read as it stands.
-fn range_read(reading: Reading) -> LikelyReading
+fn range_read(reading: Option<Miles>) -> Option<Likely>
     ensures { result ≡ range_read reading }
 {
-    match reading {
-        Reading::Distance(distance) => LikelyReading::Is(interpolation::entry(
-            dispersion::hundredths(distance),
-        )),
-        Reading::Beyond => LikelyReading::Beyond,
-    }
+    let distance = reading?;
+    Some(interpolation::entry(dispersion::hundredths(distance)))
 }
 
 // Tables 14 to 17, each for one ground, whichever the card's is; no table below has a likely reading.
-fn neutral(table: u8, rate: u64, endpoint: u32) -> LikelyReading
+fn neutral(table: u8, rate: u64, endpoint: u32) -> Option<Likely>
     requires { table ≤ 17 }
     ensures { (topography : Ground) → result ≡ likely_reading table topography rate endpoint }
 {
@@ -40,7 +36,7 @@ fn neutral(table: u8, rate: u64, endpoint: u32) -> LikelyReading
         15 => range_read(likely_neutral::table_15(rate, endpoint)),
         16 => range_read(likely_neutral::table_16(rate, endpoint)),
         17 => range_read(likely_neutral::table_17(rate, endpoint)),
-        _ => LikelyReading::Beyond,
+        _ => None,
     }
 }
 
@@ -51,18 +47,19 @@ fn by_row(
     urban: &[u16],
     topography: Ground,
     rate: u64,
-) -> LikelyReading
+) -> Option<Likely>
     requires { (0 < length rates.now) × ((length rural.now ≡ length rates.now) × (length urban.now ≡ length rates.now)) }
     ensures { result ≡ likely_at rates.now (λ i. get_or (column_of topography rural.now urban.now) i 0) rate }
 {
-    match topography {
-        Ground::Rural => interpolation::read(rates, rural, rate),
-        Ground::Urban => interpolation::read(rates, urban, rate),
-    }
+    let entries = match topography {
+        Ground::Rural => rural,
+        Ground::Urban => urban,
+    };
+    interpolation::read(rates, entries, rate)
 }
 
 // Tables 22 and 23, for ammonia, at whichever endpoint.
-fn ammonia(table: u8, topography: Ground, rate: u64) -> LikelyReading
+fn ammonia(table: u8, topography: Ground, rate: u64) -> Option<Likely>
     requires { (21 < table) × (table ≤ 23) }
     ensures { (endpoint : ℕ) → result ≡ likely_reading table topography rate endpoint }
 {
@@ -73,19 +70,19 @@ fn ammonia(table: u8, topography: Ground, rate: u64) -> LikelyReading
 }
 
 // Tables 24 and 25, for chlorine and sulfur dioxide, at whichever endpoint; no table above has a likely reading.
-fn chlorine_sulfur(table: u8, topography: Ground, rate: u64) -> LikelyReading
+fn chlorine_sulfur(table: u8, topography: Ground, rate: u64) -> Option<Likely>
     requires { 23 < table }
     ensures { (endpoint : ℕ) → result ≡ likely_reading table topography rate endpoint }
 {
     match table {
         24 => by_row(&RATE_24, &RURAL_24, &URBAN_24, topography, rate),
         25 => by_row(&RATE_25, &RURAL_25, &URBAN_25, topography, rate),
-        _ => LikelyReading::Beyond,
+        _ => None,
     }
 }
 
 // What a table answers a likely scenario at a rate and an endpoint in hundred-thousandths of mg/L, on the card's ground.
-pub fn read(table: u8, topography: Ground, rate: PoundsPerMinute, endpoint: u32) -> LikelyReading
+pub fn read(table: u8, topography: Ground, rate: PoundsPerMinute, endpoint: u32) -> Option<Likely>
     ensures { result ≡ likely_reading table topography rate.0 endpoint }
 {
     let thousandths = rate.0;

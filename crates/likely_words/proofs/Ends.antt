@@ -1,17 +1,16 @@
 -- One law for each word of each case.
 -- Assumes nothing.
+use Rattle.std.specs.Prelude.{Result, Ok, Err}
 use Prim.Native.Nat.{ℕ}
 use mathlib.Core.Path.{◌≡◌, ◌∙◌, ap, sym}
 use lib.Ieee.{Float}
 use Rattle.refusals.specs.declared.Refusal.{Refusal}
 use Rattle.likely_scenario.specs.declared.LikelyScenario.{LikelyScenario}
-use Rattle.likely_scenario.specs.declared.LikelyAnswer.{LikelyAnswer}
-use Rattle.likely_scenario.specs.declared.LikelyAnswer.TheVariants as answer
 use Rattle.words.specs.Words.{refusal_code}
 use Rattle.likely_words.specs.LikelyWords.{found_of, hundredths_of, likely_code, table_after, found_after, hundredths_after}
 
 -- an answer that is a scenario
-module _ (a : LikelyAnswer) (s : LikelyScenario) (e : a ≡ answer.Is s) where
+module _ (a : Result LikelyScenario Refusal) (s : LikelyScenario) (e : a ≡ Ok s) where
   pub told_code : 0 ≡ likely_code a
   unfolding likely_code
   told_code = sym (ap likely_code e)
@@ -29,7 +28,7 @@ module _ (a : LikelyAnswer) (s : LikelyScenario) (e : a ≡ answer.Is s) where
   told_hundredths x before q = q ∙ sym (ap (λ y. hundredths_after y before) e)
 
 -- a refusal
-module _ (a : LikelyAnswer) (r : Refusal) (e : a ≡ answer.Refused r) where
+module _ (a : Result LikelyScenario Refusal) (r : Refusal) (e : a ≡ Err r) where
   pub refused_code : (n : ℕ) → n ≡ refusal_code r 0 → n ≡ likely_code a
   unfolding likely_code
   refused_code n q = q ∙ sym (ap likely_code e)

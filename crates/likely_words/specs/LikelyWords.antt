@@ -1,10 +1,10 @@
 -- The words of the C interface for a likely scenario: what the call returns, and what it leaves in the words beside its result.
 -- Assumes nothing.
-use Rattle.std.specs.Prelude.{ℕ, Float}
+use Rattle.std.specs.Prelude.{ℕ, Float, Result, Ok, Err}
+use Rattle.likely_scenario.specs.declared.LikelyScenario.{LikelyScenario}
+use Rattle.refusals.specs.declared.Refusal.{Refusal}
 use Rattle.interpolation.specs.declared.Likely.{Likely}
 use Rattle.interpolation.specs.declared.Likely.TheVariants.{Printed, Interpolated, Limit}
-use Rattle.likely_scenario.specs.declared.LikelyAnswer.{LikelyAnswer}
-use Rattle.likely_scenario.specs.declared.LikelyAnswer.TheVariants as answer
 use Rattle.words.specs.Words.{refusal_code}
 
 -- "whether the distance was printed, interpolated or the 25-mile limit", by a number, and the distance
@@ -19,19 +19,19 @@ hundredths_of (Interpolated x) = x
 hundredths_of (Limit x) = x
 
 -- what the call returns; a refusal's place is 0 throughout
-unfoldable pub likely_code : LikelyAnswer → ℕ
-likely_code (answer.Is s) = 0
-likely_code (answer.Refused r) = refusal_code r 0
+unfoldable pub likely_code : Result LikelyScenario Refusal → ℕ
+likely_code (Ok s) = 0
+likely_code (Err r) = refusal_code r 0
 
 -- what it leaves in each of the three words that held this before; a refusal changes none
-unfoldable pub table_after : LikelyAnswer → ℕ → ℕ
-table_after (answer.Is s) before = s.table
-table_after (answer.Refused r) before = before
+unfoldable pub table_after : Result LikelyScenario Refusal → ℕ → ℕ
+table_after (Ok s) before = s.table
+table_after (Err r) before = before
 
-unfoldable pub found_after : LikelyAnswer → ℕ → ℕ
-found_after (answer.Is s) before = found_of s.distance
-found_after (answer.Refused r) before = before
+unfoldable pub found_after : Result LikelyScenario Refusal → ℕ → ℕ
+found_after (Ok s) before = found_of s.distance
+found_after (Err r) before = before
 
-unfoldable pub hundredths_after : LikelyAnswer → Float → Float
-hundredths_after (answer.Is s) before = hundredths_of s.distance
-hundredths_after (answer.Refused r) before = before
+unfoldable pub hundredths_after : Result LikelyScenario Refusal → Float → Float
+hundredths_after (Ok s) before = hundredths_of s.distance
+hundredths_after (Err r) before = before

@@ -5,7 +5,8 @@ ghost use Rattle.std.specs.Prelude.{◌≡◌};
 ghost use Rattle.likely_words.specs.LikelyWords.{found_of, hundredths_of, likely_code, table_after, found_after, hundredths_after};
 
 use interpolation::Likely;
-use likely_scenario::LikelyAnswer;
+use likely_scenario::LikelyScenario;
+use refusals::Refusal;
 
 // How a distance was found: 1 printed, 2 interpolated, 3 the limit.
 fn found_of(distance: Likely) -> u64
@@ -23,15 +24,15 @@ fn hundredths_of(distance: Likely) -> f64
     ensures { result ≡ hundredths_of distance }
 {
     match distance {
-        Likely::Printed(hundredths) => hundredths,
-        Likely::Interpolated(hundredths) => hundredths,
-        Likely::Limit(hundredths) => hundredths,
+        Likely::Printed(hundredths)
+        | Likely::Interpolated(hundredths)
+        | Likely::Limit(hundredths) => hundredths,
     }
 }
 
 // An answer by words: 0 and the three that are lent, or the refusal's word, and then the three are left alone.
 pub fn tell_likely(
-    answer: LikelyAnswer,
+    answer: Result<LikelyScenario, Refusal>,
     table: &mut u64,
     found: &mut u64,
     hundredths: &mut f64,
@@ -42,13 +43,17 @@ pub fn tell_likely(
     ensures hundredths_after { hundredths.new ≡ hundredths_after answer hundredths.old }
 {
     match answer {
-        LikelyAnswer::Is(scenario) => {
-            let distance = scenario.distance;
-            *table = scenario.table as u64;
+        Ok(
+            LikelyScenario {
+                table: number,
+                distance,
+            },
+        ) => {
+            *table = number as u64;
             *found = found_of(distance);
             *hundredths = hundredths_of(distance);
             0
         }
-        LikelyAnswer::Refused(refusal) => words::code_of(refusal, 0),
+        Err(refusal) => words::code_of(refusal, 0),
     }
 }

@@ -1,5 +1,9 @@
 -- The reader and the writer of comma lines go exactly by their tables.
 -- Assumes nothing.
+use Rattle.std.specs.Prelude.{Option, Some, None, Result, Ok, Err}
+use Rattle.farthest.specs.declared.Leaders.{Leaders}
+use Rattle.refusals.specs.declared.SentBack.{SentBack}
+use Rattle.refusals.specs.Numbers.{refused_at}
 use Prim.Native.Nat.{ℕ, zero, suc, ◌+◌, ◌<◌, zero-le, suc-le-suc}
 use Rattle.std.proofs.Common.{le_of_suc-le-suc, not-suc-le-zero, arith, ◌∙◌, sym, ap₂, inl, inr, lt-ltb}
 use Rattle.std.specs.Prelude.{◌≡◌, Bool, not, List, [], ◌∷◌, ◌++◌, ◌⊎◌, eqb, ltb, length, get_or}
@@ -12,14 +16,8 @@ use Rattle.search.specs.Laws.{clash, both_true}
 use Rattle.refusals.specs.declared.Refusal.{Refusal}
 use Rattle.refusals.specs.declared.Refusal.TheVariants as refusal
 use Rattle.header.specs.Header.{enough}
-use Rattle.walk.specs.declared.Outcome.{Outcome}
-use Rattle.walk.specs.declared.Outcome.TheVariants as outcome
 use Rattle.cards.specs.Register.{outcome_of}
 use Rattle.fields.specs.declared.Fields.{Fields}
-use Rattle.comma.specs.declared.Line.{Line}
-use Rattle.comma.specs.declared.Line.TheVariants as line
-use Rattle.comma.specs.declared.Converted.{Converted}
-use Rattle.comma.specs.declared.Converted.TheVariants as converted
 use Rattle.comma.specs.Line.{line_of}
 use Rattle.comma.specs.Text.{Cards, cards, bad, then, cards_from, cards_in, lines_of, bad_room, size_of, read_as, reading_of}
 use Rattle.write_lines.specs.Writing.{strict_text, answer_as, writing_of}
@@ -33,17 +31,17 @@ use Rattle.conditions.proofs.Exactly.{Told as RegisterTold, told as register_tol
 
 -- ---- what either call answers, in terms of its table
 
-abbrev Told : (ℕ → List Condition) → Converted → Type 0
-Told table (converted.Bytes n) = Passes table
-Told table (converted.Refused r place) = Refuses table r place
+abbrev Told : (ℕ → List Condition) → Result ℕ (SentBack ℕ) → Type 0
+Told table (Ok n) = Passes table
+Told table (Err sent) = Refuses table sent.refusal sent.place
 
-pub ends : (c : Converted) → ((n : ℕ) × (c ≡ converted.Bytes n)) ⊎ ((r : Refusal) × (place : ℕ) × (c ≡ converted.Refused r place))
-ends (converted.Bytes n) = inl (n, refl)
-ends (converted.Refused r place) = inr (r, place, refl)
+pub ends : (c : Result ℕ (SentBack ℕ)) → ((n : ℕ) × (c ≡ Ok n)) ⊎ ((r : Refusal) × (place : ℕ) × (c ≡ Err (refused_at r place)))
+ends (Ok n) = inl (n, refl)
+ends (Err sent) = inr (sent.refusal, sent.place, refl)
 
-told_exactly : (table : ℕ → List Condition) (c : Converted) → Told table c → ExactlyBy table (λ r place. c ≡ converted.Refused r place) ((n : ℕ) × (c ≡ converted.Bytes n))
+told_exactly : (table : ℕ → List Condition) (c : Result ℕ (SentBack ℕ)) → Told table c → ExactlyBy table (λ r place. c ≡ Err (refused_at r place)) ((n : ℕ) × (c ≡ Ok n))
 told_exactly table c t =
-    exactly_by table (λ r place. c ≡ converted.Refused r place) ((n : ℕ) × (c ≡ converted.Bytes n)) (ends c)
+    exactly_by table (λ r place. c ≡ Err (refused_at r place)) ((n : ℕ) × (c ≡ Ok n)) (ends c)
     (λ a. subst (Told table) a.1 t)
     (λ r place e. subst (Told table) e t)
 
@@ -71,7 +69,7 @@ module _ (table : ℕ → List Condition) where
   still_refuses r place t = (as_before place ∙ t.0, λ p h. as_before p ∙ t.1 p h)
 
   -- where nothing else holds, 13 alone decides
-  found_last : (full : Bool) (n : ℕ) → Passes table → Told (further full) (elim full as (λ _. Converted) [ true ↦ converted.Refused refusal.Room 0 | false ↦ converted.Bytes n ])
+  found_last : (full : Bool) (n : ℕ) → Passes table → Told (further full) (elim full as (λ _. Result ℕ (SentBack ℕ)) [ true ↦ Err (refused_at refusal.Room 0) | false ↦ Ok n ])
   unfolding room_at only first_of
   found_last true n t =
       (first_append (table 0) (room_at true 0) ∙ ap (λ v. after v (refused refusal.Room)) (t 0), λ p h. absurd (not-suc-le-zero h))
@@ -115,14 +113,14 @@ read k [] = (refl, refl)
 read k (text ∷ rest) = go (line_of text) refl (cards_from (suc k) rest) (read (suc k) rest)
   where
     -- a well-formed line in front of others
-    over : (f : Fields) (n : ℕ) → line_of text ≡ line.Card f → ((p : ℕ) → p < n → bad_line rest (suc p) ≡ false) → (p : ℕ) → p < suc n → bad_line (text ∷ rest) (suc p) ≡ false
+    over : (f : Fields) (n : ℕ) → line_of text ≡ Some f → ((p : ℕ) → p < n → bad_line rest (suc p) ≡ false) → (p : ℕ) → p < suc n → bad_line (text ∷ rest) (suc p) ≡ false
     over f n e before zero h = bad_here text rest ∙ ap malformed e
     over f n e before (suc p) h = bad_behind text rest p ∙ before p (le_of_suc-le-suc h)
 
-    go : (l : Line) → line_of text ≡ l → (c : Cards) → Read (suc k) rest c → Read k (text ∷ rest) (then l k c)
-    go (line.Card f) e (cards xs) t = (ap suc t.0, ap₂ (λ l a. both (not (malformed l)) a) e t.1)
-    go (line.Card f) e (bad j) t = (suc t.0, omega (arith, t.1), bad_behind text rest t.0 ∙ t.2, over f t.0 e t.3)
-    go line.Malformed e c t = (0, omega arith, bad_here text rest ∙ ap malformed e, λ p h. absurd (not-suc-le-zero h))
+    go : (l : Option Fields) → line_of text ≡ l → (c : Cards) → Read (suc k) rest c → Read k (text ∷ rest) (then l k c)
+    go (Some f) e (cards xs) t = (ap suc t.0, ap₂ (λ l a. both (not (malformed l)) a) e t.1)
+    go (Some f) e (bad j) t = (suc t.0, omega (arith, t.1), bad_behind text rest t.0 ∙ t.2, over f t.0 e t.3)
+    go None e c t = (0, omega arith, bad_here text rest ∙ ap malformed e, λ p h. absurd (not-suc-le-zero h))
 
 module _ (text : List ℕ) where
   -- 12 alone
@@ -167,10 +165,10 @@ module _ (register : List ℕ) (room : ℕ) where
   abbrev own : ℕ → List Condition
   own = conditions_at register enough
 
-  writing_told : (o : Outcome) → RegisterTold register enough o → Told (further own (no_room_to_write o (strict_text register) room)) (answer_as o (strict_text register) room)
+  writing_told : (o : Result Leaders (SentBack ℕ)) → RegisterTold register enough o → Told (further own (no_room_to_write o (strict_text register) room)) (answer_as o (strict_text register) room)
   unfolding no_room_to_write
-  writing_told (outcome.Accepted l) t = found_last own (ltb room (length (strict_text register))) (length (strict_text register)) t
-  writing_told (outcome.Refused r place) t = still_refuses own r place t
+  writing_told (Ok l) t = found_last own (ltb room (length (strict_text register))) (length (strict_text register)) t
+  writing_told (Err sent) t = still_refuses own sent.refusal sent.place t
 
   written_told : Told (writing_at register room) (writing_of register room)
   unfolding writing_at writing_of

@@ -1,5 +1,8 @@
 -- What the tables of comma lines say in plain words: of the reader's 12 and 13, and of the writer's 4.
 -- Assumes nothing.
+use Rattle.std.specs.Prelude.{Option, Some, None, Ok, Err}
+use Rattle.fields.specs.declared.Fields.{Fields}
+use Rattle.refusals.specs.Numbers.{refused_at}
 use Prim.Native.Nat.{ℕ, zero, suc, ◌+◌, ◌*◌, ◌<◌}
 use Rattle.std.proofs.Common.{arith, ◌∙◌, sym, eqb-true, eq-eqb, ltb-true, lt-ltb}
 use Rattle.std.specs.Prelude.{◌≡◌, refl, Bool, true, false, not, List, [], ◌∷◌, map, ◌⊎◌, eqb, ltb, length, get_or, drop}
@@ -13,9 +16,6 @@ use Rattle.refusals.specs.declared.Refusal.{Refusal}
 use Rattle.refusals.specs.declared.Refusal.TheVariants as refusal
 use Rattle.refusals.specs.Numbers.{number_of}
 use Rattle.header.specs.Header.{enough, count_of, bad_count, bad_buffer}
-use Rattle.comma.specs.declared.Line.{Line}
-use Rattle.comma.specs.declared.Line.TheVariants as line
-use Rattle.comma.specs.declared.Converted.TheVariants as converted
 use Rattle.comma.specs.Line.{line_of}
 use Rattle.comma.specs.Text.{lines_of, bad_room, reading_of}
 use Rattle.conditions.specs.Conditions.{Condition, condition, only, of_register, of_card, conditions_at}
@@ -27,9 +27,9 @@ use Rattle.line_conditions.proofs.LinesExactly.{ends, bad_here, bad_behind, none
 
 -- ---- the tests, and what they say
 
-is_malformed : (l : Line) → malformed l ≡ true → l ≡ line.Malformed
-is_malformed (line.Card f) e = clash (cc)
-is_malformed line.Malformed e = refl
+is_malformed : (l : Option Fields) → malformed l ≡ true → l ≡ None
+is_malformed (Some f) e = clash (cc)
+is_malformed None e = refl
 
 -- lines none of which is bad are all well formed
 all_formed_lem : (lines : List (List ℕ)) → ((number : ℕ) → bad_line lines number ≡ true → ⊥) → all_formed lines ≡ true
@@ -103,7 +103,7 @@ module _ (text : List ℕ) (room : ℕ) where
   abbrev Full : Refusal → ℕ → Type 0
   Full r place = (r ≡ refusal.Room) × (place ≡ 0) × (all_formed (lines_of text) ≡ true) × (bad_room (length (lines_of text)) room ≡ true)
 
-  sides : (r : Refusal) (place : ℕ) → reading_of text room ≡ converted.Refused r place → Bad r place ⊎ Full r place
+  sides : (r : Refusal) (place : ℕ) → reading_of text room ≡ Err (refused_at r place) → Bad r place ⊎ Full r place
   unfolding lines_at no_room_to_read room_at only
   sides r place e = go x.line x.names x.holds
     where
@@ -119,32 +119,32 @@ module _ (text : List ℕ) (room : ℕ) where
       go (suc (suc l)) n h = absurd n
 
   -- a refusal that the reader gave, where it does not accept
-  given : ((n : ℕ) × (reading_of text room ≡ converted.Bytes n) → ⊥) → (r : Refusal) × (place : ℕ) × (reading_of text room ≡ converted.Refused r place)
+  given : ((n : ℕ) × (reading_of text room ≡ Ok n) → ⊥) → (r : Refusal) × (place : ℕ) × (reading_of text room ≡ Err (refused_at r place))
   given h = ⊎_elim (λ a. absurd (h a)) (λ o. o) (ends (reading_of text room))
 
   -- where a line is bad, 12 comes
-  comes : (number : ℕ) → BadLine text number → (n : ℕ) × (reading_of text room ≡ converted.Refused refusal.Line n)
+  comes : (number : ℕ) → BadLine text number → (n : ℕ) × (reading_of text room ≡ Err (refused_at refusal.Line n))
   unfolding lines_at
   comes number b =
       let h = from_bad text number b in
       let o = given (λ a. (read_exactly text room).1.0 a number 0 h) in
       ⊎_elim
-      (λ (s : Bad o.0 o.1). (o.1, o.2 ∙ ap (λ r. converted.Refused r o.1) s.0))
+      (λ (s : Bad o.0 o.1). (o.1, o.2 ∙ ap (λ r. Err (refused_at r o.1)) s.0))
       (λ (s : Full o.0 o.1). let n = not_formed (lines_of text) number h in clash (cc))
       (sides o.0 o.1 o.2)
 
   -- where none is and there is no room, 13
-  comes_last : all_formed (lines_of text) ≡ true → bad_room (length (lines_of text)) room ≡ true → reading_of text room ≡ converted.Refused refusal.Room 0
+  comes_last : all_formed (lines_of text) ≡ true → bad_room (length (lines_of text)) room ≡ true → reading_of text room ≡ Err (refused_at refusal.Room 0)
   unfolding lines_at no_room_to_read room_at only
   comes_last f h =
       let o = given (λ a. (read_exactly text room).1.0 a 0 1 (ap₂ both f h)) in
       ⊎_elim
       (λ (s : Bad o.0 o.1). let n = none_bad (lines_of text) f o.1 in clash (cc))
-      (λ (s : Full o.0 o.1). o.2 ∙ ap₂ (λ r place. converted.Refused r place) s.0 s.1)
+      (λ (s : Full o.0 o.1). o.2 ∙ ap₂ (λ r place. Err (refused_at r place)) s.0 s.1)
       (sides o.0 o.1 o.2)
 
   -- 12 names a bad line, and none before it is
-  bad_first : (number : ℕ) → reading_of text room ≡ converted.Refused refusal.Line number → BadLine text number × ((k : ℕ) → k < number → BadLine text k → ⊥)
+  bad_first : (number : ℕ) → reading_of text room ≡ Err (refused_at refusal.Line number) → BadLine text number × ((k : ℕ) → k < number → BadLine text k → ⊥)
   unfolding lines_at
   bad_first number e = (
     ⊎_elim
@@ -157,14 +157,14 @@ module _ (text : List ℕ) (room : ℕ) where
 pub names_first : NamesFirst
 names_first text room number = (bad_first text room number, named)
   where
-    named : BadLine text number × ((k : ℕ) → k < number → BadLine text k → ⊥) → reading_of text room ≡ converted.Refused refusal.Line number
+    named : BadLine text number × ((k : ℕ) → k < number → BadLine text k → ⊥) → reading_of text room ≡ Err (refused_at refusal.Line number)
     named b =
         let o = comes text room number b.0 in
         let t = bad_first text room o.0 o.1 in
         let h : o.0 < number → ⊥ = λ l. b.1 o.0 l t.0 in
         let k : number < o.0 → ⊥ = λ l. t.1 number l b.0 in
         let n : o.0 ≡ number = omega arith in
-        o.1 ∙ ap (λ m. converted.Refused refusal.Line m) n
+        o.1 ∙ ap (λ m. Err (refused_at refusal.Line m)) n
 
 pub comes_when_bad : ComesWhenBad
 comes_when_bad text room = (λ o. (o.0, (bad_first text room o.0 o.1).0), λ o. comes text room o.0 o.1)
@@ -178,7 +178,7 @@ found_last text room place = (
       (sides text room refusal.Room place e),
   λ t.
       comes_last text room (all_there text t.1) (from_over (length (lines_of text)) room t.2)
-      ∙ ap (λ p. converted.Refused refusal.Room p) (sym t.0),
+      ∙ ap (λ p. Err (refused_at refusal.Room p)) (sym t.0),
 )
 
 -- ---- the writer's 4

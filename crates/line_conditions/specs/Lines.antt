@@ -2,25 +2,24 @@
 -- isn't eleven well-formed fields or is too long, with the first such line's number from 1; 13 the output buffer is too small or
 -- there are over 2,000 lines, found last."
 -- Assumes nothing.
-use Rattle.std.specs.Prelude.{ℕ, zero, suc, Bool, true, false, not, List, [], ◌∷◌, ◌++◌, ltb, eqb, length, get_or}
+use Rattle.std.specs.Prelude.{ℕ, zero, suc, Bool, true, false, not, List, [], ◌∷◌, ◌++◌, ltb, eqb, length, get_or, Option, Some, None, Result, Ok, Err}
+use Rattle.farthest.specs.declared.Leaders.{Leaders}
+use Rattle.fields.specs.declared.Fields.{Fields}
+use Rattle.refusals.specs.declared.SentBack.{SentBack}
 use Rattle.search.specs.Rising.{both}
 use Rattle.search.specs.Places.{every}
 use Rattle.refusals.specs.declared.Refusal.TheVariants as refusal
 use Rattle.header.specs.Header.{enough}
-use Rattle.walk.specs.declared.Outcome.{Outcome}
-use Rattle.walk.specs.declared.Outcome.TheVariants as outcome
 use Rattle.cards.specs.Register.{outcome_of}
-use Rattle.comma.specs.declared.Line.{Line}
-use Rattle.comma.specs.declared.Line.TheVariants as line
 use Rattle.comma.specs.Line.{line_of}
 use Rattle.comma.specs.Text.{lines_of, bad_room}
 use Rattle.write_lines.specs.Writing.{strict_text}
 use Rattle.conditions.specs.Conditions.{Condition, condition, only, conditions_at}
 
 -- "a line that isn't eleven well-formed fields or is too long"
-abbrev pub malformed : Line → Bool
-malformed (line.Card fields) = false
-malformed line.Malformed = true
+abbrev pub malformed : Option Fields → Bool
+malformed (Some fields) = false
+malformed None = true
 
 -- 12: the line of this number, "from 1", is there and is malformed
 unfoldable pub bad_line : List (List ℕ) → ℕ → Bool
@@ -36,12 +35,12 @@ unfoldable pub no_room_to_read : List (List ℕ) → ℕ → Bool
 no_room_to_read lines room = both (all_formed lines) (bad_room (length lines) room)
 
 -- the register is accepted
-abbrev pub is_accepted : Outcome → Bool
-is_accepted (outcome.Accepted leaders) = true
-is_accepted (outcome.Refused r place) = false
+abbrev pub is_accepted : Result Leaders (SentBack ℕ) → Bool
+is_accepted (Ok leaders) = true
+is_accepted (Err sent) = false
 
 -- the writer's 13: "the output buffer is too small .., found last", so only where the register is accepted
-unfoldable pub no_room_to_write : Outcome → List ℕ → ℕ → Bool
+unfoldable pub no_room_to_write : Result Leaders (SentBack ℕ) → List ℕ → ℕ → Bool
 no_room_to_write o text room = both (is_accepted o) (ltb room (length text))
 
 -- 13 means no line and no card: it stands at place 0 alone

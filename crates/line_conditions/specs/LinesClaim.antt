@@ -2,10 +2,9 @@
 -- buffer; and what that says in plain words. The theorems are `read_exactly` and `written_exactly` of `LinesExactly`, and
 -- `names_first`, `comes_when_bad`, `found_last` and `never_four` of `LinesPlain`.
 -- Assumes nothing.
-use Rattle.std.specs.Prelude.{ℕ, zero, suc, ◌+◌, ◌*◌, ◌<◌, ◌≡◌, refl, List, [], ◌∷◌, map, ◌↔◌, ◌⊎◌, length, get_or}
+use Rattle.std.specs.Prelude.{ℕ, zero, suc, ◌+◌, ◌*◌, ◌<◌, ◌≡◌, refl, List, [], ◌∷◌, map, ◌↔◌, ◌⊎◌, length, get_or, None, Ok, Err}
+use Rattle.refusals.specs.Numbers.{refused_at}
 use Rattle.refusals.specs.declared.Refusal.TheVariants as refusal
-use Rattle.comma.specs.declared.Line.TheVariants as line
-use Rattle.comma.specs.declared.Converted.TheVariants as converted
 use Rattle.comma.specs.Line.{line_of}
 use Rattle.comma.specs.Text.{lines_of, reading_of}
 use Rattle.write_lines.specs.Writing.{writing_of}
@@ -18,8 +17,8 @@ abbrev pub ReadExactly : Type 0
 ReadExactly =
     (text : List ℕ) (room : ℕ)
     → ExactlyBy (lines_at text room)
-    (λ r place. reading_of text room ≡ converted.Refused r place)
-    ((n : ℕ) × (reading_of text room ≡ converted.Bytes n))
+    (λ r place. reading_of text room ≡ Err (refused_at r place))
+    ((n : ℕ) × (reading_of text room ≡ Ok n))
 
 -- The writer gives the register's own refusal or 13 exactly when its condition is the first that holds, and else tells how many
 -- bytes it wrote.
@@ -27,8 +26,8 @@ abbrev pub WrittenExactly : Type 0
 WrittenExactly =
     (register : List ℕ) (room : ℕ)
     → ExactlyBy (writing_at register room)
-    (λ r place. writing_of register room ≡ converted.Refused r place)
-    ((n : ℕ) × (writing_of register room ≡ converted.Bytes n))
+    (λ r place. writing_of register room ≡ Err (refused_at r place))
+    ((n : ℕ) × (writing_of register room ≡ Ok n))
 
 -- the lines of both tables stand in this order
 pub lines_numbered : (text : List ℕ) (room place : ℕ) → map number_in (lines_at text room place) ≡ 12 ∷ 13 ∷ []
@@ -44,29 +43,29 @@ writing_numbered register room place = refl
 -- the line of this number, from 1, is there and is not well formed
 abbrev pub BadLine : List ℕ → ℕ → Type 0
 BadLine text zero = ⊥
-BadLine text (suc i) = (i < length (lines_of text)) × (line_of (get_or (lines_of text) i []) ≡ line.Malformed)
+BadLine text (suc i) = (i < length (lines_of text)) × (line_of (get_or (lines_of text) i []) ≡ None)
 
 -- The reader's 12 names the first line that is not well formed,
 abbrev pub NamesFirst : Type 0
 NamesFirst =
     (text : List ℕ) (room number : ℕ)
-    → (reading_of text room ≡ converted.Refused refusal.Line number)
+    → (reading_of text room ≡ Err (refused_at refusal.Line number))
     ↔ (BadLine text number × ((k : ℕ) → k < number → BadLine text k → ⊥))
 
 -- and comes exactly when there is one.
 abbrev pub ComesWhenBad : Type 0
 ComesWhenBad =
     (text : List ℕ) (room : ℕ)
-    → ((number : ℕ) × (reading_of text room ≡ converted.Refused refusal.Line number)) ↔ ((number : ℕ) × BadLine text number)
+    → ((number : ℕ) × (reading_of text room ≡ Err (refused_at refusal.Line number))) ↔ ((number : ℕ) × BadLine text number)
 
 -- The reader's 13 comes, at place 0, exactly when no line is bad and there are over 2,000 lines or too little room for a register
 -- of so many cards.
 abbrev pub FoundLast : Type 0
 FoundLast =
     (text : List ℕ) (room place : ℕ)
-    → (reading_of text room ≡ converted.Refused refusal.Room place)
+    → (reading_of text room ≡ Err (refused_at refusal.Room place))
     ↔ ((place ≡ 0) × ((number : ℕ) → BadLine text number → ⊥) × ((2_000 < length (lines_of text)) ⊎ (room < 7 + 24 * length (lines_of text))))
 
 -- The writer never gives 4.
 abbrev pub NeverFour : Type 0
-NeverFour = (register : List ℕ) (room place : ℕ) → writing_of register room ≡ converted.Refused refusal.Buffer place → ⊥
+NeverFour = (register : List ℕ) (room place : ℕ) → writing_of register room ≡ Err (refused_at refusal.Buffer place) → ⊥

@@ -1,6 +1,6 @@
 -- Every likely distance that a table of rows answers is a number between 0 and 2,500, in hundredths of a mile, whatever the rate.
 -- Assumes nothing.
-use Rattle.std.specs.Prelude.{ℕ, zero, suc, ◌-◌, ◌^◌, ◌≤◌, ◌<◌, ◌≡◌, List, [], ◌∷◌, Bool, leb, eqb, length, get_or, take}
+use Rattle.std.specs.Prelude.{ℕ, zero, suc, ◌-◌, ◌^◌, ◌≤◌, ◌<◌, ◌≡◌, List, [], ◌∷◌, Bool, leb, eqb, length, get_or, take, Option, Some, None}
 use Rattle.std.proofs.Common.{zero-le, le_refl, arith}
 use Rattle.std.proofs.Math.Nat.{le-suc}
 use Rattle.std.proofs.Math.Path.{refl}
@@ -15,8 +15,6 @@ use Rattle.rules.specs.Cuts.{climbs}
 use Rattle.rules.proofs.Laws.{in_use_mono}
 use Rattle.interpolation.specs.declared.Likely.{Likely}
 use Rattle.interpolation.specs.declared.Likely.TheVariants.{Printed, Interpolated, Limit}
-use Rattle.interpolation.specs.declared.LikelyReading.{LikelyReading}
-use Rattle.interpolation.specs.declared.LikelyReading.TheVariants.{Is, Beyond}
 use Rattle.interpolation.specs.Interpolation.{float_of, row_of, line_between, entry_read, between_rows, above_last, by_first, likely_at, likely_by_row}
 use Rattle.line_laws.specs.Floats.{whole, le_of, at_least, at_most}
 use Rattle.line_laws.proofs.Line.{line_between_lem}
@@ -55,7 +53,7 @@ above_number : (d : ℕ) → d ≤ 2500 → CarriesIn (above_last d)
 unfolding above_last
 above_number d h = go (eqb d mile_limit)
   where
-    go : (t : Bool) → CarriesIn (elim t as (λ _. LikelyReading) [ true ↦ Is (Limit (float_of d)) | false ↦ Beyond ])
+    go : (t : Bool) → CarriesIn (elim t as (λ _. Option Likely) [ true ↦ Some (Limit (float_of d)) | false ↦ None ])
     go true = whole_number d h
     go false = tt
 
@@ -85,7 +83,7 @@ module _ (rates : List ℕ) (entry : ℕ → ℕ) (climb : climbs rates ≡ true
   number_reads rate = go (ltb (first_at_least rate rates) (length rates)) refl
     where
       go : (t : Bool) → ltb (first_at_least rate rates) (length rates) ≡ t
-          → CarriesIn (elim t as (λ _. LikelyReading) [ true ↦ Is (by_first (first_at_least rate rates) rates entry rate) | false ↦ above_last (entry (length rates - 1)) ])
+          → CarriesIn (elim t as (λ _. Option Likely) [ true ↦ Some (by_first (first_at_least rate rates) rates entry rate) | false ↦ above_last (entry (length rates - 1)) ])
       go true e =
           let h = ltb-true (first_at_least rate rates) (length rates) e in
           first_number_lem rate (first_at_least rate rates) h (below_place rates climb rate) (first_reaches rate rates h)

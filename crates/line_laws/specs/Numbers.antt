@@ -1,11 +1,9 @@
 -- Every likely distance that a table of rows answers is a number between 0 and 2,500, in hundredths of a mile, whatever the rate.
 -- Assumes nothing.
-use Rattle.std.specs.Prelude.{T, Float}
+use Rattle.std.specs.Prelude.{T, Float, Option, Some, None}
 use Rattle.std.specs.Float.Ieee.{le}
 use Rattle.interpolation.specs.declared.Likely.{Likely}
 use Rattle.interpolation.specs.declared.Likely.TheVariants.{Printed, Interpolated, Limit}
-use Rattle.interpolation.specs.declared.LikelyReading.{LikelyReading}
-use Rattle.interpolation.specs.declared.LikelyReading.TheVariants.{Is, Beyond}
 use Rattle.interpolation.specs.Interpolation.{float_of}
 
 -- a number between 0 and 2,500: `le` is false of a NaN
@@ -18,6 +16,6 @@ Carries (Printed x) = Number x
 Carries (Interpolated x) = Number x
 Carries (Limit x) = Number x
 
-abbrev pub CarriesIn : LikelyReading → Type 0
-CarriesIn (Is l) = Carries l
-CarriesIn Beyond = Unit {0}
+abbrev pub CarriesIn : Option Likely → Type 0
+CarriesIn (Some l) = Carries l
+CarriesIn None = Unit {0}

@@ -48,8 +48,6 @@ pub fn put_card_line(out: &mut [u8], at: usize, answer: Answer) -> usize
     ensures wrote { Wrote out.old out.new at result (card_line answer) }
     ensures upper_bound { result ≤ at + 128 }
 {
-    let rate = answer.rate;
-    let distance = answer.distance;
     let half = put_numbers(out, at, answer.number, answer.route, answer.table);
-    put_rates(out, half, rate, distance)
+    put_rates(out, half, answer.rate, answer.distance)
 }

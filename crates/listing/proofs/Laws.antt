@@ -1,19 +1,16 @@
 -- The walk that writes lines comes to the lines of the cards and the leaders, and the outcome of a register to its text.
 -- Assumes nothing.
-use Rattle.std.specs.Prelude.{ℕ, ◌-◌, ◌≤◌, ◌≡◌, refl, List, [], ◌∷◌, ◌++◌, length, take, drop}
+use Rattle.std.specs.Prelude.{ℕ, ◌-◌, ◌≤◌, ◌≡◌, refl, List, [], ◌∷◌, ◌++◌, length, take, drop, Option, Some, Result, Ok, Err}
+use Rattle.refusals.specs.Numbers.{refused_at}
 use Rattle.std.proofs.Common.{arith, ◌∙◌, ap₂, sym, subst, length-take}
 use Rattle.std.proofs.Math.Path.{ap}
 use Rattle.search.specs.Laws.{clash}
 use Rattle.refusals.specs.declared.Refusal.{Refusal}
 use Rattle.refusals.specs.Numbers.{number_of}
 use Rattle.card.specs.declared.Answer.{Answer}
-use Rattle.header.specs.declared.Header.{Header}
-use Rattle.header.specs.declared.Header.TheVariants as header
 use Rattle.header.specs.Header.{enough, header_of}
-use Rattle.walk.specs.declared.Outcome.TheVariants as outcome
 use Rattle.running.specs.declared.Running.{Running}
 use Rattle.running.specs.Running.{before_cards}
-use Rattle.walk.specs.declared.Walked.TheVariants as walked
 use Rattle.walk.specs.declared.Writes.TheVariants as writes
 use Rattle.walk.specs.Walk.{texts_of, walk_from, text_from}
 use Rattle.cards.specs.Register.{Cards, answers, sent_back, cards_from, cards_of, result_of, after_header, outcome_of}
@@ -21,8 +18,6 @@ use Rattle.cards.proofs.Laws.{behind_header}
 use Rattle.cards.proofs.Walked.{Passed, passed_leaders, stopped}
 use Rattle.lines.specs.Lines.{card_line}
 use Rattle.closing.specs.Closing.{refused_line}
-use Rattle.listing.specs.declared.Listed.{Listed}
-use Rattle.listing.specs.declared.Listed.TheVariants as listed
 use Rattle.listing.specs.Laws.{IsAccepted}
 use Rattle.listing.specs.Listing.{card_lines, leader_lines, listing_of, listed_after, Within}
 
@@ -32,12 +27,12 @@ unfolding texts_of card_lines
 texts_lines [] = refl
 texts_lines (a ∷ xs) = ap (λ text. card_line a ++ text) (texts_lines xs)
 
-refused_text : (c : Cards) {r : Refusal} {place : ℕ} → result_of c ≡ outcome.Refused r place → refused_line (number_of r) place ≡ listing_of c
+refused_text : (c : Cards) {r : Refusal} {place : ℕ} → result_of c ≡ Err (refused_at r place) → refused_line (number_of r) place ≡ listing_of c
 refused_text (answers xs) e = let z : ◌≡◌ {A = ℕ} 0 1 = cc in clash z
 refused_text (sent_back r place) e = cc
 
 -- a good header: what the walk behind it writes and ends with
-module _ (bytes : List ℕ) (n : ℕ) (good : header_of bytes enough ≡ header.Good n) where
+module _ (bytes : List ℕ) (n : ℕ) (good : header_of bytes enough ≡ Ok n) where
   -- the cards as the code takes them
   abbrev Rest : List ℕ
   Rest = take (length bytes - 7) (drop 7 bytes)
@@ -53,7 +48,7 @@ module _ (bytes : List ℕ) (n : ℕ) (good : header_of bytes enough ≡ header.
       ∙ (ap listing_of (sym p.cards ∙ rest_cards) ∙ ap (λ h. listed_after h bytes) (sym good))
 
   -- its walk stops at no card
-  pub accepted_walk : {A : Type 0} (r : Refusal) (place : ℕ) → IsAccepted (outcome_of bytes enough) → walk_from writes.Lines n before_cards 0 Rest ≡ walked.Refused r place → A
+  pub accepted_walk : {A : Type 0} (r : Refusal) (place : ℕ) → IsAccepted (outcome_of bytes enough) → walk_from writes.Lines n before_cards 0 Rest ≡ Err (refused_at r place) → A
   unfolding outcome_of
   accepted_walk r place o e =
       absurd
@@ -64,22 +59,22 @@ module _ (bytes : List ℕ) (n : ℕ) (good : header_of bytes enough ≡ header.
 
 module _ (bytes : List ℕ) where
   -- a refused header is never accepted
-  pub accepted_header : {A : Type 0} {r : Refusal} → IsAccepted (outcome_of bytes enough) → header_of bytes enough ≡ header.Refused r → A
+  pub accepted_header : {A : Type 0} {r : Refusal} → IsAccepted (outcome_of bytes enough) → header_of bytes enough ≡ Err r → A
   unfolding outcome_of
   accepted_header o e = absurd (subst IsAccepted (ap (λ h. after_header h bytes) e) o)
 
   -- and a register that is sent back prints why
-  pub sent_back_text : {r : Refusal} {place : ℕ} → outcome_of bytes enough ≡ outcome.Refused r place → refused_line (number_of r) place ≡ listed_after (header_of bytes enough) bytes
+  pub sent_back_text : {r : Refusal} {place : ℕ} → outcome_of bytes enough ≡ Err (refused_at r place) → refused_line (number_of r) place ≡ listed_after (header_of bytes enough) bytes
   unfolding outcome_of
   sent_back_text {r} {place} q = go (header_of bytes enough) q
     where
-      go : (h : Header) → after_header h bytes ≡ outcome.Refused r place → refused_line (number_of r) place ≡ listed_after h bytes
-      go (header.Good n) p = refused_text (cards_of n bytes) p
-      go (header.Refused s) p = cc
+      go : (h : Result ℕ Refusal) → after_header h bytes ≡ Err (refused_at r place) → refused_line (number_of r) place ≡ listed_after h bytes
+      go (Ok n) p = refused_text (cards_of n bytes) p
+      go (Err s) p = cc
 
 -- ---- what a caller shows who prints the text: it is a part of the buffer, from its start
 
-pub text_part : (room n : ℕ) {x : Listed} → x ≡ listed.Text n → Within room x → n ≤ room
+pub text_part : (room n : ℕ) {x : Option ℕ} → x ≡ Some n → Within room x → n ≤ room
 text_part room n e w = subst (Within room) e w
 
 pub part_length : (n : ℕ) (bytes : List ℕ) → n ≤ length bytes → n ≡ length (take n bytes)

@@ -1,18 +1,15 @@
 -- The listing of a register, as text: what the listing program prints for the bytes that it is given.
 -- Assumes nothing.
-use Rattle.std.specs.Prelude.{ℕ, ◌+◌, ◌*◌, ◌≤◌, List, [], ◌∷◌, ◌++◌, Bool, true, false, ltb, length, drop}
+use Rattle.std.specs.Prelude.{ℕ, ◌+◌, ◌*◌, ◌≤◌, List, [], ◌∷◌, ◌++◌, Bool, true, false, ltb, length, drop, Option, Some, None, Result, Ok, Err}
+use Rattle.refusals.specs.declared.Refusal.{Refusal}
 use Rattle.refusals.specs.Numbers.{number_of}
 use Rattle.card.specs.declared.Answer.{Answer}
 use Rattle.farthest.specs.declared.Leaders.{Leaders}
 use Rattle.farthest.specs.Farthest.{leaders_of}
-use Rattle.header.specs.declared.Header.{Header}
-use Rattle.header.specs.declared.Header.TheVariants as header
 use Rattle.header.specs.Header.{header_size, card_size, enough, header_of}
 use Rattle.cards.specs.Register.{Cards, answers, sent_back, cards_of}
 use Rattle.lines.specs.Lines.{card_line}
 use Rattle.closing.specs.Closing.{leader_line, refused_line, unless_long}
-use Rattle.listing.specs.declared.Listed.{Listed}
-use Rattle.listing.specs.declared.Listed.TheVariants as listed
 
 -- "the longest register that can be accepted (48,007 bytes)": the header and 2,000 cards
 abbrev pub longest : ℕ
@@ -33,9 +30,9 @@ listing_of (answers xs) = card_lines xs ++ leader_lines (leaders_of xs)
 listing_of (sent_back r place) = refused_line (number_of r) place
 
 -- "(0 for 1 to 4, and wherever no card is meant)"
-abbrev pub listed_after : Header → List ℕ → List ℕ
-listed_after (header.Good count) bytes = listing_of (cards_of count bytes)
-listed_after (header.Refused r) bytes = refused_line (number_of r) 0
+abbrev pub listed_after : Result ℕ Refusal → List ℕ → List ℕ
+listed_after (Ok count) bytes = listing_of (cards_of count bytes)
+listed_after (Err r) bytes = refused_line (number_of r) 0
 
 -- "The listing program reads a register on standard input and prints" this; "An input longer than the longest register that can be
 -- accepted (48,007 bytes) prints `too long` and nothing else."
@@ -46,13 +43,13 @@ text_of bytes = unless_long (ltb longest (length bytes)) (listed_after (header_o
 abbrev pub listing_room : ℕ
 listing_room = 128 * 2_000 + 256
 
-abbrev pub if_room : Bool → Listed → Listed
-if_room true r = listed.NoRoom
+abbrev pub if_room : Bool → Option ℕ → Option ℕ
+if_room true r = None
 if_room false r = r
 
 -- what the call answers for a register and a lent buffer of this length
-unfoldable pub listed_of : List ℕ → ℕ → Listed
-listed_of bytes room = if_room (ltb room listing_room) (listed.Text (length (text_of bytes)))
+unfoldable pub listed_of : List ℕ → ℕ → Option ℕ
+listed_of bytes room = if_room (ltb room listing_room) (Some (length (text_of bytes)))
 
 abbrev pub kept_if : Bool → List ℕ → List ℕ → List ℕ
 kept_if true out after = out
@@ -63,6 +60,6 @@ unfoldable pub listed_into : List ℕ → List ℕ → List ℕ
 listed_into bytes out = kept_if (ltb (length out) listing_room) out (text_of bytes ++ drop (length (text_of bytes)) out)
 
 -- the text lies within the buffer
-abbrev pub Within : ℕ → Listed → Type 0
-Within room (listed.Text n) = n ≤ room
-Within room listed.NoRoom = Unit {0}
+abbrev pub Within : ℕ → Option ℕ → Type 0
+Within room (Some n) = n ≤ room
+Within room None = Unit {0}

@@ -10,16 +10,8 @@ ghost use Rattle.listing.specs.Listing.{leader_lines, listed_after, listing_room
 ghost use Rattle.listing.specs.Laws.{IsAccepted};
 
 use farthest::Leaders;
-use header::Header;
-use register::Outcome;
-use walk::{Walked, Writes};
-
-// How many bytes of the lent buffer the listing takes, or that the buffer is too short for every listing.
-#[derive(Clone, Copy)]
-pub enum Listed {
-    Text(usize),
-    NoRoom,
-}
+use refusals::SentBack;
+use walk::Writes;
 
 // The longest register that can be accepted: the header and 2,000 cards.
 const LONGEST: usize = 48_007;
@@ -33,10 +25,8 @@ fn put_leaders(out: &mut [u8], at: usize, leaders: Leaders) -> usize
     ensures wrote { Wrote out.old out.new at result (leader_lines leaders) }
     ensures upper_bound { result ≤ listing_room }
 {
-    let toxic = leaders.toxic;
-    let flammable = leaders.flammable;
-    let next = closing::put_leader(out, at, b'T', toxic);
-    closing::put_leader(out, next, b'F', flammable)
+    let next = closing::put_leader(out, at, b'T', leaders.toxic);
+    closing::put_leader(out, next, b'F', leaders.flammable)
 }
 
 // The listing of a register that is accepted: one walk writes a line for each card and keeps the leaders. That it stops at no card
@@ -46,16 +36,13 @@ fn put_accepted(register: &[u8], out: &mut [u8]) -> usize
     ensures wrote { Wrote out.old out.new 0 result (listed_after (header_of register.now enough) register.now) }
     ensures upper_bound { result ≤ listing_room }
 {
-    let header = header::header_of(register, header::ENOUGH);
-    let Header::Good(count) = header else {
+    let Ok(count) = header::header_of(register, header::ENOUGH) else {
         return 0;
     };
-    let walked = walk::through(&register[7..], count, Writes::Lines, out);
-    let Walked::On(running, behind) = walked else {
+    let Ok((running, behind)) = walk::through(&register[7..], count, Writes::Lines, out) else {
         return 0;
     };
-    let leaders = running.leaders;
-    put_leaders(out, behind, leaders)
+    put_leaders(out, behind, running.leaders)
 }
 
 // The listing of a register that is not too long.
@@ -64,27 +51,26 @@ fn put_listing(register: &[u8], out: &mut [u8]) -> usize
     ensures wrote { Wrote out.old out.new 0 result (listed_after (header_of register.now enough) register.now) }
     ensures upper_bound { result ≤ listing_room }
 {
-    let outcome = register::outcome_of(register, header::ENOUGH);
-    match outcome {
-        Outcome::Accepted(_) => put_accepted(register, out),
-        Outcome::Refused(refusal, place) => {
-            let number = refusals::number(refusal);
-            closing::put_refused(out, 0, number, place)
+    match register::outcome_of(register, header::ENOUGH) {
+        Ok(_) => put_accepted(register, out),
+        Err(SentBack { refusal, place }) => {
+            closing::put_refused(out, 0, refusals::number(refusal), place)
         }
     }
 }
 
-// The listing of any bytes at the start of a lent buffer. A buffer in which some listing has no room is left as it was.
-pub fn list(register: &[u8], out: &mut [u8]) -> Listed
+// The listing of any bytes at the start of a lent buffer, and how many bytes it takes. A buffer in which some listing has no room is
+// left as it was, and none is answered.
+pub fn list(register: &[u8], out: &mut [u8]) -> Option<usize>
     ensures value { result ≡ listed_of register.now (length out.old) }
     ensures out_after { out.new ≡ listed_into register.now out.old }
     ensures within { Within (length out.new) result }
 {
     if out.len() < ROOM {
-        return Listed::NoRoom;
+        return None;
     }
     if LONGEST < register.len() {
-        return Listed::Text(closing::put_too_long(out, 0));
+        return Some(closing::put_too_long(out, 0));
     }
-    Listed::Text(put_listing(register, out))
+    Some(put_listing(register, out))
 }

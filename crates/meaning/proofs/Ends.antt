@@ -1,6 +1,7 @@
 -- One law for each way out of a function that goes by tests: what the tests and the calls on the way say is what the
 -- definition says. `search (law, rules)` puts them to use.
 -- Assumes nothing.
+use Rattle.std.specs.Prelude.{Result, Ok, Err}
 use Prim.Native.Nat.{ℕ, ◌≤◌}
 use mathlib.Core.Path.{◌≡◌, ◌∙◌, ap, sym, subst}
 use mathlib.Core.Bool.{Bool, true, false, not}
@@ -22,8 +23,6 @@ use Rattle.refusals.specs.declared.Refusal.TheVariants as refusal
 use Rattle.form.specs.declared.Standing.{Standing}
 use Rattle.form.specs.declared.Shape.{Shape}
 use Rattle.form.specs.Form.{shape_of}
-use Rattle.ranges.specs.declared.Bounds.{Bounds}
-use Rattle.ranges.specs.declared.Bounds.TheVariants as bounds
 use Rattle.ranges.specs.Ranges.{bad_pounds, bounds_of, bounds_refusal, BoundsLimits}
 use Rattle.meaning.specs.declared.Meaning.{Meaning}
 use Rattle.meaning.specs.declared.Meaning.TheVariants as meaning
@@ -52,59 +51,59 @@ module _ (f : Fields) where
 
 module _ (f : Fields) where
   -- a flammable card
-  pub flammable_not : (b : Bool) → b ≡ is_flammable f.cas → not b ≡ true → meaning.Refused refusal.Unlisted ≡ flammable_of f
+  pub flammable_not : (b : Bool) → b ≡ is_flammable f.cas → not b ≡ true → Err refusal.Unlisted ≡ flammable_of f
   unfolding flammable_of
   flammable_not b e q =
       let p : not (is_flammable f.cas) ≡ true = ap not (sym e) ∙ q in
       simp p
 
-  pub flammable_pounds : (b d : Bool) → b ≡ is_flammable f.cas → not b ≡ false → d ≡ bad_pounds f.pounds → d ≡ true → meaning.Refused refusal.Quantity ≡ flammable_of f
+  pub flammable_pounds : (b d : Bool) → b ≡ is_flammable f.cas → not b ≡ false → d ≡ bad_pounds f.pounds → d ≡ true → Err refusal.Quantity ≡ flammable_of f
   unfolding flammable_of
   flammable_pounds b d e q g r =
       let p : not (is_flammable f.cas) ≡ false = ap not (sym e) ∙ q in
       let s : bad_pounds f.pounds ≡ true = sym g ∙ r in
       simp (p, s)
 
-  pub flammable_is : (b d : Bool) (n : Pounds) → b ≡ is_flammable f.cas → not b ≡ false → d ≡ bad_pounds f.pounds → d ≡ false → n.0 ≡ f.pounds → meaning.Flammable (record { cas = f.cas; quantity = n }) ≡ flammable_of f
+  pub flammable_is : (b d : Bool) (n : Pounds) → b ≡ is_flammable f.cas → not b ≡ false → d ≡ bad_pounds f.pounds → d ≡ false → n.0 ≡ f.pounds → Ok (meaning.Flammable (record { cas = f.cas; quantity = n })) ≡ flammable_of f
   unfolding flammable_of
   flammable_is b d n e q g r m =
       let p : not (is_flammable f.cas) ≡ false = ap not (sym e) ∙ q in
       let s : bad_pounds f.pounds ≡ false = sym g ∙ r in
-      simp (p, s) (λ i. meaning.Flammable (record { cas = f.cas; quantity = record { 0 = m i } }))
+      simp (p, s) (λ i. Ok (meaning.Flammable (record { cas = f.cas; quantity = record { 0 = m i } })))
 
   -- a toxic card's meaning
-  pub toxic_not : (x : Toxic) (standing : Standing) (b : Bool) → x ≡ substance_of f → b ≡ is_listed x → not b ≡ true → meaning.Refused refusal.Unlisted ≡ toxic_meaning (substance_of f) f standing
+  pub toxic_not : (x : Toxic) (standing : Standing) (b : Bool) → x ≡ substance_of f → b ≡ is_listed x → not b ≡ true → Err refusal.Unlisted ≡ toxic_meaning (substance_of f) f standing
   unfolding toxic_meaning
   toxic_not x standing b e g q =
       let p : not (is_listed (substance_of f)) ≡ true = ap not (ap is_listed (sym e) ∙ sym g) ∙ q in
       simp (p)
 
-  listed_meaning : (x : Toxic) (standing : Standing) (b : Bool) (d : Bounds) → x ≡ substance_of f → b ≡ is_listed x → not b ≡ false → d ≡ bounds_of x f → toxic_bounded d f x standing ≡ toxic_meaning (substance_of f) f standing
+  listed_meaning : (x : Toxic) (standing : Standing) (b : Bool) (d : Result Tenths Refusal) → x ≡ substance_of f → b ≡ is_listed x → not b ≡ false → d ≡ bounds_of x f → toxic_bounded d f x standing ≡ toxic_meaning (substance_of f) f standing
   unfolding toxic_meaning
   listed_meaning x standing b d e g q h =
       let p : not (is_listed (substance_of f)) ≡ false = ap not (ap is_listed (sym e) ∙ sym g) ∙ q in
       simp (p) (ap (λ y. toxic_bounded y f x standing) h ∙ ap (λ y. toxic_bounded (bounds_of y f) f y standing) e)
 
-  pub toxic_refused : (x : Toxic) (standing : Standing) (b : Bool) (d : Bounds) (r : Refusal) → x ≡ substance_of f → b ≡ is_listed x → not b ≡ false → d ≡ bounds_of x f → (k : Refusal) → d ≡ bounds.Refused k → r ≡ bounds_refusal d → meaning.Refused r ≡ toxic_meaning (substance_of f) f standing
+  pub toxic_refused : (x : Toxic) (standing : Standing) (b : Bool) (d : Result Tenths Refusal) (r : Refusal) → x ≡ substance_of f → b ≡ is_listed x → not b ≡ false → d ≡ bounds_of x f → (k : Refusal) → d ≡ Err k → r ≡ bounds_refusal d → Err r ≡ toxic_meaning (substance_of f) f standing
   toxic_refused x standing b d r e g q h k m n =
-      ap meaning.Refused (n ∙ ap bounds_refusal m) ∙ (ap (λ y. toxic_bounded y f x standing) (sym m) ∙ listed_meaning x standing b d e g q h)
+      ap Err (n ∙ ap bounds_refusal m) ∙ (ap (λ y. toxic_bounded y f x standing) (sym m) ∙ listed_meaning x standing b d e g q h)
 
-  pub toxic_read : (x : Toxic) (standing : Standing) (b : Bool) (d : Bounds) (t : Tenths) (n : Pounds) → x ≡ substance_of f → b ≡ is_listed x → not b ≡ false → d ≡ bounds_of x f → d ≡ bounds.Within t → n.0 ≡ f.pounds → meaning.Toxic (record { cas = f.cas; entry = x; state = standing.state; topography = standing.topography; quantity = n; tenths = t; containment = standing.containment }) ≡ toxic_meaning (substance_of f) f standing
+  pub toxic_read : (x : Toxic) (standing : Standing) (b : Bool) (d : Result Tenths Refusal) (t : Tenths) (n : Pounds) → x ≡ substance_of f → b ≡ is_listed x → not b ≡ false → d ≡ bounds_of x f → d ≡ Ok t → n.0 ≡ f.pounds → Ok (meaning.Toxic (record { cas = f.cas; entry = x; state = standing.state; topography = standing.topography; quantity = n; tenths = t; containment = standing.containment })) ≡ toxic_meaning (substance_of f) f standing
   toxic_read x standing b d t n e g q h m k =
-      (λ i. meaning.Toxic (record { cas = f.cas; entry = x; state = standing.state; topography = standing.topography; quantity = record { 0 = k i }; tenths = t; containment = standing.containment }))
+      (λ i. Ok (meaning.Toxic (record { cas = f.cas; entry = x; state = standing.state; topography = standing.topography; quantity = record { 0 = k i }; tenths = t; containment = standing.containment })))
       ∙ (ap (λ y. toxic_bounded y f x standing) (sym m) ∙ listed_meaning x standing b d e g q h)
 
-  pub toxic_limited : (x : Toxic) (standing : Standing) (d : Bounds) (t : Tenths) (n : Pounds) → x ≡ substance_of f → BoundsLimits f d → d ≡ bounds.Within t → n.0 ≡ f.pounds → Limits (record { cas = f.cas; entry = x; state = standing.state; topography = standing.topography; quantity = n; tenths = t; containment = standing.containment })
+  pub toxic_limited : (x : Toxic) (standing : Standing) (d : Result Tenths Refusal) (t : Tenths) (n : Pounds) → x ≡ substance_of f → BoundsLimits f d → d ≡ Ok t → n.0 ≡ f.pounds → Limits (record { cas = f.cas; entry = x; state = standing.state; topography = standing.topography; quantity = n; tenths = t; containment = standing.containment })
   toxic_limited x standing d t n e l m k =
       let p : f.pounds ≤ 10_000_000 = subst (BoundsLimits f) m l in
       record { quantity = rw k p; entry = subst Within (sym e) (entry_within f) }
 
   -- the whole meaning
-  pub meaning_number : (last : ℕ) (b : Bool) → b ≡ bad_number f.number last → b ≡ true → meaning.Refused refusal.Number ≡ meaning_of f last
+  pub meaning_number : (last : ℕ) (b : Bool) → b ≡ bad_number f.number last → b ≡ true → Err refusal.Number ≡ meaning_of f last
   unfolding meaning_of
   meaning_number last b e q = let p : bad_number f.number last ≡ true = sym e ∙ q in simp p
 
-  pub meaning_shape : (last : ℕ) (b : Bool) (x y : Shape) (r : Meaning) → b ≡ bad_number f.number last → b ≡ false → x ≡ shape_of f → x ≡ y → r ≡ shaped y f → r ≡ meaning_of f last
+  pub meaning_shape : (last : ℕ) (b : Bool) (x y : Result Shape Refusal) (r : Result Meaning Refusal) → b ≡ bad_number f.number last → b ≡ false → x ≡ shape_of f → x ≡ y → r ≡ shaped y f → r ≡ meaning_of f last
   unfolding meaning_of
   meaning_shape last b x y r e q g h m =
       let p : bad_number f.number last ≡ false = sym e ∙ q in simp p (m ∙ ap (λ z. shaped z f) (sym h ∙ g))

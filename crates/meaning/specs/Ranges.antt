@@ -1,6 +1,7 @@
 -- The ranges of a card's numbers where its meaning is no refusal.
 -- Assumes nothing.
-use Rattle.std.specs.Prelude.{ℕ, ◌≤◌, ◌<◌, ◌≡◌, refl, Bool, true, false, not, ◌⊎◌}
+use Rattle.std.specs.Prelude.{ℕ, ◌≤◌, ◌<◌, ◌≡◌, refl, Bool, true, false, not, ◌⊎◌, Some, Result, Ok, Err}
+use Rattle.scenario.specs.declared.Tenths.{Tenths}
 use Rattle.std.proofs.Common.{arith, inl, inr}
 use Rattle.std.proofs.lemmas.Bool.{not-false}
 use Rattle.search.specs.Laws.{clash}
@@ -20,16 +21,12 @@ use Rattle.which_table.specs.declared.State.{State}
 use Rattle.which_table.specs.declared.State.TheVariants.{Gas, Pressurized, Refrigerated, Liquid, Solution}
 use Rattle.fields.specs.declared.Fields.{Fields}
 use Rattle.refusals.specs.declared.Refusal.{Refusal}
-use Rattle.form.specs.declared.StateByte.TheVariants as stateByte
-use Rattle.form.specs.declared.GroundByte.TheVariants as ground_byte
-use Rattle.form.specs.declared.Held.TheVariants as held
 use Rattle.form.specs.declared.Standing.{Standing}
 use Rattle.form.specs.declared.Shape.{Shape}
 use Rattle.form.specs.declared.Shape.TheVariants as shape
 use Rattle.form.specs.Form.{held_of, shape_of}
 use Rattle.form.specs.Inverse.{toxic_shape, flammable_shape}
 use Rattle.form.specs.Same.{state_in, state_byte, ground_in, ground_byte_lem, held_bytes, flammable_blank}
-use Rattle.ranges.specs.declared.Bounds.{Bounds}
 use Rattle.ranges.specs.Ranges.{bad_pounds, bad_area, bad_wall, tenths_of, bad_tenths, is_out_of_range, bounds_if, bounds_of}
 use Rattle.ranges.proofs.Laws.{pounds_within, wall_within, heat_within, area_within}
 use Rattle.meaning.specs.declared.Meaning.{Meaning}
@@ -70,7 +67,7 @@ tenths_within f =
     either_end n (inr h) = inr (h, n)
 
 -- "zero if open"; else the area is in range
-held_within : (c : Containment) (b area wall : ℕ) → held_of b area wall ≡ held.Is c → bad_area b area ≡ false → (b ≤ 3) × (area ≤ 1_000_000)
+held_within : (c : Containment) (b area wall : ℕ) → held_of b area wall ≡ Some c → bad_area b area ≡ false → (b ≤ 3) × (area ≤ 1_000_000)
 unfolding bad_area
 held_within Open b area wall h e = omega (arith, held_bytes b area wall h)
 held_within (Dike d) b area wall h e = let k = (held_bytes b area wall h).0 in (omega arith, area_within area (rw k at e))
@@ -79,30 +76,30 @@ held_within (ShedWithDoors x) b area wall h e = let k = (held_bytes b area wall 
 
 -- ---- the codes
 
-state_within : (s : State) → state_in (stateByte.Is s) ≤ 5
+state_within : (s : State) → state_in (Some s) ≤ 5
 state_within Gas = omega arith
 state_within Pressurized = omega arith
 state_within Refrigerated = omega arith
 state_within Liquid = omega arith
 state_within Solution = omega arith
 
-ground_within : (g : Ground) → ground_in (ground_byte.Is g) ≤ 2
+ground_within : (g : Ground) → ground_in (Some g) ≤ 2
 ground_within Rural = omega arith
 ground_within Urban = omega arith
 
 -- ---- a meaning that is no refusal
 
-abbrev Sound : Meaning → Type 0
-Sound m = (r : Refusal) → m ≡ meaning.Refused r → ⊥
+abbrev Sound : Result Meaning Refusal → Type 0
+Sound m = (r : Refusal) → m ≡ Err r → ⊥
 
 -- a check on the way to it lets the card pass
-passed : (b : Bool) (r : Refusal) (further : Meaning) → Sound (meaning_if b r further) → (b ≡ false) × Sound further
+passed : (b : Bool) (r : Refusal) (further : Result Meaning Refusal) → Sound (meaning_if b r further) → (b ≡ false) × Sound further
 passed true r further n = absurd (n r refl)
 passed false r further n = (refl, n)
 
 -- so does one of its ranges
 module _ (f : Fields) (entry : Toxic) (standing : Standing) where
-  within : (b : Bool) (r : Refusal) (further : Bounds) → Sound (toxic_bounded (bounds_if b r further) f entry standing)
+  within : (b : Bool) (r : Refusal) (further : Result Tenths Refusal) → Sound (toxic_bounded (bounds_if b r further) f entry standing)
       → (b ≡ false) × Sound (toxic_bounded further f entry standing)
   within true r further n = absurd (n r refl)
   within false r further n = (refl, n)
@@ -130,9 +127,9 @@ cas_within f =
     (λ n l. exhibits.listed_below f.cas (listed (toxic_of f.cas) l))
 
 -- by what the bytes 0 to 3 make
-shaped_ranged : (f : Fields) (s : Shape) → shape_of f ≡ s → Sound (shaped s f) → Ranged f
+shaped_ranged : (f : Fields) (s : Result Shape Refusal) → shape_of f ≡ s → Sound (shaped s f) → Ranged f
 unfolding toxic_meaning flammable_of
-shaped_ranged f (shape.Toxic standing) p n =
+shaped_ranged f (Ok (shape.Toxic standing)) p n =
     let bytes = toxic_shape f p in
     let known = passed (not (is_listed (substance_of f))) _ _ n in
     let in_List = not-false (is_listed (substance_of f)) known.0 in
@@ -149,7 +146,7 @@ shaped_ranged f (shape.Toxic standing) p n =
       wall = wall_within f.wall numbers.2;
       heat = tenths_within f in_List numbers.3 numbers.4;
     }
-shaped_ranged f shape.Flammable p n =
+shaped_ranged f (Ok shape.Flammable) p n =
     let zeros = flammable_blank f p in
     let known = passed (not (is_flammable f.cas)) _ _ n in
     record {
@@ -163,8 +160,8 @@ shaped_ranged f shape.Flammable p n =
       wall = omega arith;
       heat = inl (omega arith);
     }
-shaped_ranged f (shape.Refused r) p n = absurd (n r refl)
+shaped_ranged f (Err r) p n = absurd (n r refl)
 
-pub ranged : (f : Fields) (last : ℕ) → ((r : Refusal) → meaning_of f last ≡ meaning.Refused r → ⊥) → Ranged f
+pub ranged : (f : Fields) (last : ℕ) → ((r : Refusal) → meaning_of f last ≡ Err r → ⊥) → Ranged f
 unfolding meaning_of
 ranged f last n = shaped_ranged f (shape_of f) refl (passed (bad_number f.number last) _ _ n).1

@@ -1,7 +1,7 @@
 -- The fields of a card that has a meaning, told again by the meaning and the card's number: two cards with one meaning and one
 -- number have the same fields.
 -- Assumes nothing.
-use Rattle.std.specs.Prelude.{ℕ, ◌-◌, ◌^◌, ◌<◌, ◌≡◌, refl, Bool, true, false, ltb, ℤ, pos, negsuc}
+use Rattle.std.specs.Prelude.{ℕ, ◌-◌, ◌^◌, ◌<◌, ◌≡◌, refl, Bool, true, false, ltb, ℤ, pos, negsuc, Some, Result, Ok, Err}
 use Rattle.std.proofs.Common.{arith}
 use Rattle.search.specs.Laws.{clash}
 use Rattle.scenario.specs.declared.Tenths.{Tenths}
@@ -10,9 +10,6 @@ use Rattle.scenario.specs.declared.ToxicCard.{ToxicCard}
 use Rattle.fields.specs.declared.Fields.{Fields}
 use Rattle.refusals.specs.declared.Refusal.{Refusal}
 use Rattle.refusals.specs.declared.Refusal.TheVariants as refusal
-use Rattle.form.specs.declared.StateByte.TheVariants as stateByte
-use Rattle.form.specs.declared.GroundByte.TheVariants as ground_byte
-use Rattle.form.specs.declared.Held.TheVariants as held
 use Rattle.form.specs.declared.Shape.{Shape}
 use Rattle.form.specs.declared.Shape.TheVariants as shape
 use Rattle.form.specs.Form.{shape_of}
@@ -69,14 +66,14 @@ made_of f = refl
 -- the fields that a toxic and a flammable card with this number are read from
 unfoldable pub toxic_fields : ToxicCard → ℕ → Fields
 toxic_fields card number =
-    let h = held_in (held.Is card.containment) in
-    made 1 (state_in (stateByte.Is card.state)) (ground_in (ground_byte.Is card.topography)) h.0
+    let h = held_in (Some card.containment) in
+    made 1 (state_in (Some card.state)) (ground_in (Some card.topography)) h.0
     card.cas card.quantity.0 h.1 h.2 (tenths_in card.tenths) number
 
 unfoldable pub flammable_fields : FlammableCard → ℕ → Fields
 flammable_fields card number = made 2 0 0 0 card.cas card.quantity.0 0 0 0 number
 
-pub toxic_fields_lem : (f : Fields) (last : ℕ) {card : ToxicCard} → f.heat < 2 ^ 16 → meaning_of f last ≡ meaning.Toxic card → f ≡ toxic_fields card f.number
+pub toxic_fields_lem : (f : Fields) (last : ℕ) {card : ToxicCard} → f.heat < 2 ^ 16 → meaning_of f last ≡ Ok (meaning.Toxic card) → f ≡ toxic_fields card f.number
 unfolding toxic_fields
 toxic_fields_lem f last h e =
     let t = toxic_from f last e in
@@ -84,18 +81,18 @@ toxic_fields_lem f last h e =
     cc (made_of f, state_byte f.state t.state, ground_byte_lem f.topography t.topography, tenths_bytes f h)
 
 -- a flammable meaning comes of a flammable shape
-flammable_shaped : (f : Fields) (last : ℕ) {card : FlammableCard} → meaning_of f last ≡ meaning.Flammable card → shape_of f ≡ shape.Flammable
+flammable_shaped : (f : Fields) (last : ℕ) {card : FlammableCard} → meaning_of f last ≡ Ok (meaning.Flammable card) → shape_of f ≡ Ok shape.Flammable
 unfolding meaning_of
 flammable_shaped f last {card} e = go (bad_number f.number last) (shape_of f) refl e
   where
-    go : (b : Bool) (s : Shape) → shape_of f ≡ s → meaning_if b refusal.Number (shaped s f) ≡ meaning.Flammable card → shape_of f ≡ shape.Flammable
+    go : (b : Bool) (s : Result Shape Refusal) → shape_of f ≡ s → meaning_if b refusal.Number (shaped s f) ≡ Ok (meaning.Flammable card) → shape_of f ≡ Ok shape.Flammable
     go true s p q = clash (cc)
-    go false (shape.Toxic standing) p q =
+    go false (Ok (shape.Toxic standing)) p q =
         absurd (omega (arith, (toxic_shape f p).kind, (flammable_from f last e).kind))
-    go false shape.Flammable p q = p
-    go false (shape.Refused r) p q = clash (cc)
+    go false (Ok shape.Flammable) p q = p
+    go false (Err r) p q = clash (cc)
 
-pub flammable_fields_lem : (f : Fields) (last : ℕ) {card : FlammableCard} → meaning_of f last ≡ meaning.Flammable card → f ≡ flammable_fields card f.number
+pub flammable_fields_lem : (f : Fields) (last : ℕ) {card : FlammableCard} → meaning_of f last ≡ Ok (meaning.Flammable card) → f ≡ flammable_fields card f.number
 unfolding flammable_fields
 flammable_fields_lem f last e =
     let t = flammable_from f last e in
@@ -103,7 +100,7 @@ flammable_fields_lem f last e =
     cc (made_of f)
 
 -- one meaning and one number, one set of fields
-pub same_fields : (f g : Fields) (last other : ℕ) {m : Meaning} → f.heat < 2 ^ 16 → g.heat < 2 ^ 16 → meaning_of f last ≡ m → meaning_of g other ≡ m → ((r : Refusal) → m ≡ meaning.Refused r → ⊥) → f.number ≡ g.number → f ≡ g
-same_fields f g last other {m = meaning.Toxic card} hf hg p q not_refused n = cc (toxic_fields_lem f last hf p, toxic_fields_lem g other hg q)
-same_fields f g last other {m = meaning.Flammable card} hf hg p q not_refused n = cc (flammable_fields_lem f last p, flammable_fields_lem g other q)
-same_fields f g last other {m = meaning.Refused r} hf hg p q not_refused n = absurd (not_refused r refl)
+pub same_fields : (f g : Fields) (last other : ℕ) {m : Result Meaning Refusal} → f.heat < 2 ^ 16 → g.heat < 2 ^ 16 → meaning_of f last ≡ m → meaning_of g other ≡ m → ((r : Refusal) → m ≡ Err r → ⊥) → f.number ≡ g.number → f ≡ g
+same_fields f g last other {m = Ok (meaning.Toxic card)} hf hg p q not_refused n = cc (toxic_fields_lem f last hf p, toxic_fields_lem g other hg q)
+same_fields f g last other {m = Ok (meaning.Flammable card)} hf hg p q not_refused n = cc (flammable_fields_lem f last p, flammable_fields_lem g other q)
+same_fields f g last other {m = Err r} hf hg p q not_refused n = absurd (not_refused r refl)

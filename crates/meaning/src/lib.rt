@@ -7,7 +7,6 @@ ghost use Rattle.meaning.specs.Reading.{bad_number, substance_of, is_listed, tox
 use exhibits::Toxic;
 use fields::Fields;
 use form::{Shape, Standing};
-use ranges::Bounds;
 use refusals::Refusal;
 use scenario::ToxicCard;
 use units::Pounds;
@@ -19,98 +18,83 @@ pub struct FlammableCard {
     pub quantity: Pounds,
 }
 
-// What a card means, or why it is sent back.
+// What a card means.
 #[derive(Clone, Copy)]
 pub enum Meaning {
     Toxic(ToxicCard),
     Flammable(FlammableCard),
-    Refused(Refusal),
 }
 
 fn bad_number(number: u32, last: u32) -> bool
     ensures { result ≡ bad_number number last }
 {
-    if number == 0 { true } else { number <= last }
+    number == 0 || number <= last
 }
 
 // What the exhibits say of a toxic card: B-3 of a solution at its concentration, else B-1 or B-2.
 fn substance_of(f: Fields) -> Toxic
     ensures { result ≡ substance_of f }
 {
-    if f.state == 5 {
-        return solutions::solution_of(f.cas, f.heat);
+    match f.state {
+        5 => solutions::solution_of(f.cas, f.heat),
+        _ => exhibits::toxic_of(f.cas),
     }
-    exhibits::toxic_of(f.cas)
 }
 
 fn is_listed(entry: Toxic) -> bool
     ensures { result ≡ is_listed entry }
 {
-    match entry {
-        Toxic::OfGas(_) => true,
-        Toxic::OfLiquid(_) => true,
-        Toxic::OfSolution(_) => true,
-        Toxic::OutOfRange => true,
-        Toxic::NotListed => false,
-    }
+    !matches!(entry, Toxic::NotListed)
 }
 
 // A toxic card's meaning: its substance is listed and its numbers are in range.
-pub fn toxic_meaning(f: Fields, standing: Standing) -> Meaning
+pub fn toxic_meaning(f: Fields, standing: Standing) -> Result<Meaning, Refusal>
     ensures value { result ≡ toxic_meaning (substance_of f) f standing }
     ensures meaning_limits { MeaningLimits result }
 {
     let entry = substance_of(f);
     if !is_listed(entry) {
-        return Meaning::Refused(Refusal::Unlisted);
+        return Err(Refusal::Unlisted);
     }
-    let found = bounds::bounds_of(f, entry);
-    let Bounds::Within(tenths) = found else {
-        return Meaning::Refused(bounds::bounds_refusal(found));
-    };
-    let state = standing.state;
-    let topography = standing.topography;
-    let containment = standing.containment;
-    Meaning::Toxic(ToxicCard {
+    let tenths = bounds::bounds_of(f, entry)?;
+    Ok(Meaning::Toxic(ToxicCard {
         cas: f.cas,
         entry,
-        state,
-        topography,
+        state: standing.state,
+        topography: standing.topography,
         quantity: release::pounds(f.pounds),
         tenths,
-        containment,
-    })
+        containment: standing.containment,
+    }))
 }
 
 // A flammable card's meaning.
-fn flammable_meaning(f: Fields) -> Meaning
+fn flammable_meaning(f: Fields) -> Result<Meaning, Refusal>
     ensures value { result ≡ flammable_of f }
     ensures meaning_limits { MeaningLimits result }
 {
     if !combustion::is_flammable(f.cas) {
-        return Meaning::Refused(Refusal::Unlisted);
+        return Err(Refusal::Unlisted);
     }
     if ranges::bad_pounds(f.pounds) {
-        return Meaning::Refused(Refusal::Quantity);
+        return Err(Refusal::Quantity);
     }
-    Meaning::Flammable(FlammableCard {
+    Ok(Meaning::Flammable(FlammableCard {
         cas: f.cas,
         quantity: release::pounds(f.pounds),
-    })
+    }))
 }
 
 // What a card means after the last card's number, or the first refusal whose condition holds.
-pub fn meaning_of(f: Fields, last: u32) -> Meaning
+pub fn meaning_of(f: Fields, last: u32) -> Result<Meaning, Refusal>
     ensures value { result ≡ meaning_of f last }
     ensures meaning_limits { MeaningLimits result }
 {
     if bad_number(f.number, last) {
-        return Meaning::Refused(Refusal::Number);
+        return Err(Refusal::Number);
     }
-    let shape = form::shape_of(f);
-    match shape {
+    match form::shape_of(f)? {
         Shape::Toxic(standing) => toxic_meaning(f, standing),
         Shape::Flammable => flammable_meaning(f),
-        Shape::Refused(refusal) => Meaning::Refused(refusal),
     }
 }

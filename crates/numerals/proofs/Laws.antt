@@ -1,7 +1,7 @@
 -- What callers use of the numbers of a field: they never pass what the field may hold, and the digits of a number read as that
 -- number.
 -- Assumes nothing.
-use Rattle.std.specs.Prelude.{ℕ, ◌+◌, ◌-◌, ◌≤◌, ◌<◌, ◌≡◌, refl, List, [], ◌∷◌, ◌++◌, Bool, true, false, leb, eqb, drop}
+use Rattle.std.specs.Prelude.{ℕ, ◌+◌, ◌-◌, ◌≤◌, ◌<◌, ◌≡◌, refl, List, [], ◌∷◌, ◌++◌, Bool, true, false, leb, eqb, drop, Option, Some, None}
 use Rattle.std.proofs.Common.{le_trans, not-suc-le-zero, arith, ap, ◌∙◌, get_or-append-add, le-leb, leb-true, ne_eqb}
 use Rattle.std.proofs.Math.ListN.{length, take, length-append}
 use Rattle.std.proofs.Math.Seq.{take_at, drop-append-add}
@@ -15,17 +15,15 @@ use Rattle.decimal.proofs.Laws.{digits_read, digits_all, digits_some}
 use Rattle.pieces.specs.Pieces.{Without}
 use Rattle.numerals.specs.declared.Form.{Form}
 use Rattle.numerals.specs.declared.Form.TheVariants as form
-use Rattle.numerals.specs.declared.Number.{Number}
-use Rattle.numerals.specs.declared.Number.TheVariants as number
 use Rattle.spaces.specs.Spaces.{skip, keep, chop, bare}
 use Rattle.numerals.specs.Numerals.{is_digit, numbered, read_on, number_in, hyphened, unhyphened, cas_in, minus, heat_in, value_of, value_in, most_of, Within}
 
 -- ---- no number is above what its field may hold
 
 -- a wider bound holds too
-within_wider : (most wider : ℕ) (n : Number) → most ≤ wider → Within most n → Within wider n
-within_wider most wider (number.Is n) h w = le_trans w h
-within_wider most wider number.Malformed h w = tt
+within_wider : (most wider : ℕ) (n : Option ℕ) → most ≤ wider → Within most n → Within wider n
+within_wider most wider (Some n) h w = le_trans w h
+within_wider most wider None h w = tt
 
 -- of digits read on from a number
 read_within : (most so_far : ℕ) (text : List ℕ) → Within most (read_on most so_far text)
@@ -50,25 +48,25 @@ cas_within : (text : List ℕ) → Within 4_294_967_295 (cas_in text)
 unfolding cas_in
 cas_within text = go (hyphened text)
   where
-    go : (t : Bool) → Within 4_294_967_295 (elim t as (λ _. Number) [ true ↦ read_on 4_294_967_295 0 (unhyphened text) | false ↦ number.Malformed ])
+    go : (t : Bool) → Within 4_294_967_295 (elim t as (λ _. Option ℕ) [ true ↦ read_on 4_294_967_295 0 (unhyphened text) | false ↦ None ])
     go true = read_within 4_294_967_295 0 (unhyphened text)
     go false = tt
 
 -- of a temperature below zero, and of any
-minus_within : (n : Number) → Within 65_535 (minus n)
-minus_within (number.Is n) = go (eqb n 0) refl
+minus_within : (n : Option ℕ) → Within 65_535 (minus n)
+minus_within (Some n) = go (eqb n 0) refl
   where
-    go : (t : Bool) → eqb n 0 ≡ t → Within 65_535 (minus (number.Is n))
+    go : (t : Bool) → eqb n 0 ≡ t → Within 65_535 (minus (Some n))
     go true e = rw (e, minus) (omega arith)
     go false e = let positive : n ≡ 0 → ⊥ = eqb-false n 0 e in rw (e, minus) (omega arith)
-minus_within number.Malformed = tt
+minus_within None = tt
 
 heat_within : (text : List ℕ) → Within 65_535 (heat_in text)
 unfolding heat_in
 heat_within [] = tt
 heat_within (b ∷ rest) = go (eqb b 45)
   where
-    go : (t : Bool) → Within 65_535 (elim t as (λ _. Number) [ true ↦ minus (number_in 32_768 rest) | false ↦ number_in 32_767 (b ∷ rest) ])
+    go : (t : Bool) → Within 65_535 (elim t as (λ _. Option ℕ) [ true ↦ minus (number_in 32_768 rest) | false ↦ number_in 32_767 (b ∷ rest) ])
     go true = minus_within (number_in 32_768 rest)
     go false = within_wider 32_767 65_535 (number_in 32_767 (b ∷ rest)) (omega arith) (number_within 32_767 (b ∷ rest))
 
@@ -92,7 +90,7 @@ all_digits (b ∷ rest) all =
 
 -- a text of digits that are not too wide is its number
 pub digits_are : (most so_far : ℕ) (text : List ℕ) → AllDigits text → read_from so_far text ≤ most
-    → read_on most so_far text ≡ number.Is (read_from so_far text)
+    → read_on most so_far text ≡ Some (read_from so_far text)
 unfolding read_on
 digits_are most so_far text all h = rw (all_digits text all, le-leb (read_from so_far text) most h)
 
@@ -103,11 +101,11 @@ number_some most [] h = absurd (not-suc-le-zero h)
 number_some most (b ∷ rest) h = refl
 
 -- a number as it is written, without leading zeros, is read as itself
-pub number_written : (most n : ℕ) → n ≤ most → number_in most (digits n) ≡ number.Is n
+pub number_written : (most n : ℕ) → n ≤ most → number_in most (digits n) ≡ Some n
 number_written most n h =
     number_some most (digits n) (digits_some n)
     ∙ digits_are most 0 (digits n) (digits_all n) (rw (digits_read n) h)
-    ∙ ap number.Is (digits_read n)
+    ∙ ap Some (digits_read n)
 
 -- ---- a text without spaces is bare
 
@@ -145,7 +143,7 @@ digits_without x (b ∷ rest) h all =
     (λ (e : b ≡ x). omega arith, digits_without x rest h all.2)
 
 -- a field with a number as it is written is that number
-pub decimal_written : (most n : ℕ) → n ≤ most → value_in (form.Decimal most) (digits n) ≡ number.Is n
+pub decimal_written : (most n : ℕ) → n ≤ most → value_in (form.Decimal most) (digits n) ≡ Some n
 decimal_written most n h =
     value_written (form.Decimal most) (digits n) (digits_without 32 (digits n) (omega arith) (digits_all n))
     ∙ number_written most n h
@@ -201,11 +199,11 @@ heat_digits (b ∷ rest) all =
     rw (ne_eqb b 45 plus, heat_in)
 
 -- digits alone are a temperature from zero up
-pub heat_plus : (n : ℕ) → n ≤ 32_767 → heat_in (digits n) ≡ number.Is n
+pub heat_plus : (n : ℕ) → n ≤ 32_767 → heat_in (digits n) ≡ Some n
 heat_plus n h = heat_digits (digits n) (digits_all n) ∙ number_written 32_767 n h
 
 -- digits behind a minus are one below zero, two's complement
-pub heat_minus : (n : ℕ) → 0 < n → n ≤ 32_768 → heat_in (45 ∷ digits n) ≡ number.Is (65_536 - n)
+pub heat_minus : (n : ℕ) → 0 < n → n ≤ 32_768 → heat_in (45 ∷ digits n) ≡ Some (65_536 - n)
 unfolding heat_in
 heat_minus n positive h =
     let some : n ≡ 0 → ⊥ = λ e. omega arith in

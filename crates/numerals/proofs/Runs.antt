@@ -1,13 +1,12 @@
 -- Digits that are read on from a number: one byte, a number that is too wide, and one run of digits behind another.
 -- Assumes nothing.
-use Rattle.std.specs.Prelude.{ℕ, ◌+◌, ◌-◌, ◌*◌, ◌≤◌, ◌<◌, ◌≡◌, refl, List, [], ◌∷◌, ◌++◌, Bool, true, false, ◌⊎◌, leb}
+use Rattle.std.specs.Prelude.{ℕ, ◌+◌, ◌-◌, ◌*◌, ◌≤◌, ◌<◌, ◌≡◌, refl, List, [], ◌∷◌, ◌++◌, Bool, true, false, ◌⊎◌, leb, Some, None}
 use Rattle.std.proofs.Common.{le_refl, le_trans, arith, sym, ap, ◌∙◌, inl, inr, ⊎_elim, le-leb, leb-false}
 use Rattle.std.proofs.lemmas.Bool.{lt-leb}
 use Rattle.search.specs.Laws.{clash, lt_or_ge}
 use Rattle.search.specs.Rising.{both}
 use Rattle.search.specs.Places.{every}
 use Rattle.decimal.specs.Decimal.{read_from}
-use Rattle.numerals.specs.declared.Number.TheVariants as number
 use Rattle.numerals.specs.Numerals.{is_digit, numbered, read_on}
 
 -- a test beside one that fails
@@ -21,11 +20,11 @@ pub digit_on : (most v b : ℕ) (rest : List ℕ) → 48 ≤ b → b ≤ 57 → 
 unfolding read_on read_from
 digit_on most v b rest h k = rw (le-leb 48 b h, le-leb b 57 k)
 
-pub digit_low : (most v b : ℕ) (rest : List ℕ) → b < 48 → read_on most v (b ∷ rest) ≡ number.Malformed
+pub digit_low : (most v b : ℕ) (rest : List ℕ) → b < 48 → read_on most v (b ∷ rest) ≡ None
 unfolding read_on read_from
 digit_low most v b rest h = rw (lt-leb 48 b h)
 
-pub digit_high : (most v b : ℕ) (rest : List ℕ) → 57 < b → read_on most v (b ∷ rest) ≡ number.Malformed
+pub digit_high : (most v b : ℕ) (rest : List ℕ) → 57 < b → read_on most v (b ∷ rest) ≡ None
 unfolding read_on read_from
 digit_high most v b rest h = rw (lt-leb b 57 h, both_fails (leb 48 b))
 
@@ -35,13 +34,13 @@ unfolding read_from
 read_grows [] v = le_refl v
 read_grows (b ∷ rest) v = le_trans {m = v * 10 + (b - 48)} (omega arith) (read_grows rest (v * 10 + (b - 48)))
 
-pub too_wide : (most v : ℕ) (rest : List ℕ) → most < v → read_on most v rest ≡ number.Malformed
+pub too_wide : (most v : ℕ) (rest : List ℕ) → most < v → read_on most v rest ≡ None
 unfolding read_on
 too_wide most v rest h = rw (lt-leb (read_from v rest) most (le_trans h (read_grows rest v)), both_fails (every is_digit rest))
 
 -- ---- one run of digits behind another
 
-digit_or_not : (b : ℕ) → ((48 ≤ b) × (b ≤ 57)) ⊎ ((most v : ℕ) (rest : List ℕ) → read_on most v (b ∷ rest) ≡ number.Malformed)
+digit_or_not : (b : ℕ) → ((48 ≤ b) × (b ≤ 57)) ⊎ ((most v : ℕ) (rest : List ℕ) → read_on most v (b ∷ rest) ≡ None)
 digit_or_not b =
     ⊎_elim
     (λ (low : b < 48). inr (λ most v rest. digit_low most v b rest low))
@@ -53,11 +52,11 @@ digit_or_not b =
     (lt_or_ge b 48)
 
 -- where the first run is well formed, the second is read on from it
-pub runs_on : (most v : ℕ) (s t : List ℕ) {w : ℕ} → read_on most v s ≡ number.Is w → read_on most v (s ++ t) ≡ read_on most w t
+pub runs_on : (most v : ℕ) (s t : List ℕ) {w : ℕ} → read_on most v s ≡ Some w → read_on most v (s ++ t) ≡ read_on most w t
 unfolding read_on read_from
 runs_on most v [] t {w} e = go (leb v most) e
   where
-    go : (b : Bool) → numbered b v ≡ number.Is w → read_on most v t ≡ read_on most w t
+    go : (b : Bool) → numbered b v ≡ Some w → read_on most v t ≡ read_on most w t
     go true q = let same : v ≡ w = cc in ap (λ (k : ℕ). read_on most k t) same
     go false q = let z : ◌≡◌ {A = ℕ} 0 1 = cc in clash z
 runs_on most v (b ∷ s) t {w} e = ⊎_elim
@@ -67,11 +66,11 @@ runs_on most v (b ∷ s) t {w} e = ⊎_elim
     (digit_or_not b)
 
 -- where it is not, neither are the two
-pub runs_out : (most v : ℕ) (s t : List ℕ) → read_on most v s ≡ number.Malformed → read_on most v (s ++ t) ≡ number.Malformed
+pub runs_out : (most v : ℕ) (s t : List ℕ) → read_on most v s ≡ None → read_on most v (s ++ t) ≡ None
 unfolding read_on read_from
 runs_out most v [] t e = go (leb v most) refl e
   where
-    go : (b : Bool) → leb v most ≡ b → numbered b v ≡ number.Malformed → read_on most v t ≡ number.Malformed
+    go : (b : Bool) → leb v most ≡ b → numbered b v ≡ None → read_on most v t ≡ None
     go true p q = let z : ◌≡◌ {A = ℕ} 0 1 = cc in clash z
     go false p q = too_wide most v t (leb-false v most p)
 runs_out most v (b ∷ s) t e = ⊎_elim

@@ -1,7 +1,7 @@
 -- Which field of a comma line is well formed, and what number it is. A field is a list of bytes in ASCII: the space is 32, the
 -- hyphen and the minus are 45, and the digit d is 48 + d.
 -- Assumes nothing.
-use Rattle.std.specs.Prelude.{ℕ, ◌-◌, ◌≤◌, List, [], ◌∷◌, ◌++◌, Bool, true, false, leb, eqb, length, take, drop}
+use Rattle.std.specs.Prelude.{ℕ, ◌-◌, ◌≤◌, List, [], ◌∷◌, ◌++◌, Bool, true, false, leb, eqb, length, take, drop, Option, Some, None}
 use Rattle.search.specs.Rising.{both}
 use Rattle.search.specs.Places.{every}
 use Rattle.buffer.specs.Numbers.{byte_at}
@@ -9,8 +9,6 @@ use Rattle.decimal.specs.Decimal.{read_from}
 use Rattle.spaces.specs.Spaces.{bare}
 use Rattle.numerals.specs.declared.Form.{Form}
 use Rattle.numerals.specs.declared.Form.TheVariants as form
-use Rattle.numerals.specs.declared.Number.{Number}
-use Rattle.numerals.specs.declared.Number.TheVariants as number
 
 -- ---- "decimal"
 
@@ -18,19 +16,19 @@ abbrev pub is_digit : ℕ → Bool
 is_digit b = both (leb 48 b) (leb b 57)
 
 -- the number where it is well formed
-abbrev pub numbered : Bool → ℕ → Number
-numbered true n = number.Is n
-numbered false n = number.Malformed
+abbrev pub numbered : Bool → ℕ → Option ℕ
+numbered true n = Some n
+numbered false n = None
 
 -- digits read on from a number: nothing but digits, and not "too wide for its bytes". That goes by value, so that leading zeros
 -- never make a number too wide.
-unfoldable pub read_on : ℕ → ℕ → List ℕ → Number
+unfoldable pub read_on : ℕ → ℕ → List ℕ → Option ℕ
 read_on most so_far digits =
     numbered (both (every is_digit digits) (leb (read_from so_far digits) most)) (read_from so_far digits)
 
 -- a decimal number of at most `most`: at least one digit, "leading zeros" among them
-unfoldable pub number_in : ℕ → List ℕ → Number
-number_in most [] = number.Malformed
+unfoldable pub number_in : ℕ → List ℕ → Option ℕ
+number_in most [] = None
 number_in most (b ∷ rest) = read_on most 0 (b ∷ rest)
 
 -- ---- "CAS number with hyphens (7782-50-5, the last groups two digits and one)"
@@ -46,30 +44,30 @@ unhyphened text =
     take (length text - 5) text ++ (take 2 (drop (length text - 4) text) ++ drop (length text - 1) text)
 
 -- the number of the digits without hyphens. No check digit is tested.
-unfoldable pub cas_in : List ℕ → Number
-cas_in text = elim (hyphened text) [ true ↦ read_on 4_294_967_295 0 (unhyphened text) | false ↦ number.Malformed ]
+unfoldable pub cas_in : List ℕ → Option ℕ
+cas_in text = elim (hyphened text) [ true ↦ read_on 4_294_967_295 0 (unhyphened text) | false ↦ None ]
 
 -- ---- "temperature in tenths"
 
 -- a number below zero in two bytes, two's complement; "a minus zero is not well formed"
-abbrev pub minus : Number → Number
-minus (number.Is n) = elim (eqb n 0) [ true ↦ number.Malformed | false ↦ number.Is (65_536 - n) ]
-minus number.Malformed = number.Malformed
+abbrev pub minus : Option ℕ → Option ℕ
+minus (Some n) = elim (eqb n 0) [ true ↦ None | false ↦ Some (65_536 - n) ]
+minus None = None
 
 -- the two bytes of the temperature as one number, still unsigned, as a card holds it: from -32,768 to 32,767
-unfoldable pub heat_in : List ℕ → Number
-heat_in [] = number.Malformed
+unfoldable pub heat_in : List ℕ → Option ℕ
+heat_in [] = None
 heat_in (b ∷ rest) = elim (eqb b 45) [ true ↦ minus (number_in 32_768 rest) | false ↦ number_in 32_767 (b ∷ rest) ]
 
 -- ---- a field by what it is to hold
 
-abbrev pub value_of : Form → List ℕ → Number
+abbrev pub value_of : Form → List ℕ → Option ℕ
 value_of (form.Decimal most) text = number_in most text
 value_of form.Cas text = cas_in text
 value_of form.Temperature text = heat_in text
 
 -- the number of a field, with spaces around it or none
-unfoldable pub value_in : Form → List ℕ → Number
+unfoldable pub value_in : Form → List ℕ → Option ℕ
 value_in f field = value_of f (bare field)
 
 -- the largest number that it may be
@@ -78,6 +76,6 @@ most_of (form.Decimal most) = most
 most_of form.Cas = 4_294_967_295
 most_of form.Temperature = 65_535
 
-abbrev pub Within : ℕ → Number → Type 0
-Within most (number.Is n) = n ≤ most
-Within most number.Malformed = Unit {0}
+abbrev pub Within : ℕ → Option ℕ → Type 0
+Within most (Some n) = n ≤ most
+Within most None = Unit {0}

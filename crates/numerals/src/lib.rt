@@ -12,67 +12,49 @@ pub enum Form {
     Temperature,
 }
 
-// The number of a field, or that it is not well formed.
-#[derive(Clone, Copy)]
-pub enum Number {
-    Is(u32),
-    Malformed,
-}
-
 // The largest number of four bytes.
-pub const FOUR_BYTES: u32 = 4_294_967_295;
+pub const FOUR_BYTES: u32 = u32::MAX;
 
-// Digits read on from a number. It stops at the first byte that is no digit, or once the number is too wide.
-pub fn read_on(digits: &[u8], so_far: u32, most: u32) -> Number
+// Digits read on from a number, or none where they are not well formed. It stops at the first byte that is no digit, or once the
+// number is too wide.
+pub fn read_on(digits: &[u8], so_far: u32, most: u32) -> Option<u32>
     requires { so_far ≤ most }
     ensures { result ≡ read_on most so_far digits.now }
 {
     let mut value = so_far as u64;
-    let mut i = 0usize;
-    while i < digits.len() {
-        let b = digits[i];
-        if b < b'0' {
-            return Number::Malformed;
-        }
-        if b'9' < b {
-            return Number::Malformed;
+    for &b in digits {
+        if !b.is_ascii_digit() {
+            return None;
         }
         value = value * 10 + (b - b'0') as u64;
         if (most as u64) < value {
-            return Number::Malformed;
+            return None;
         }
-        i += 1;
     }
-    Number::Is(value as u32)
+    Some(value as u32)
 }
 
 // A decimal number of at most so much.
-pub fn number_in(text: &[u8], most: u32) -> Number
+pub fn number_in(text: &[u8], most: u32) -> Option<u32>
     ensures { result ≡ number_in most text.now }
 {
-    if text.len() == 0 {
-        return Number::Malformed;
+    if text.is_empty() {
+        return None;
     }
     read_on(text, 0, most)
 }
 
 // A temperature, as the two bytes that a card has, still unsigned.
-pub fn heat_in(text: &[u8]) -> Number
+pub fn heat_in(text: &[u8]) -> Option<u32>
     ensures { result ≡ heat_in text.now }
 {
-    let end = text.len();
-    if end == 0 {
-        return Number::Malformed;
-    }
-    if text[0] != b'-' {
+    let (&first, rest) = text.split_first()?;
+    if first != b'-' {
         return number_in(text, 32_767);
     }
-    let below = number_in(&text[1..end], 32_768);
-    let Number::Is(n) = below else {
-        return Number::Malformed;
-    };
-    if n == 0 {
-        return Number::Malformed;
+    let below = number_in(rest, 32_768)?;
+    if below == 0 {
+        return None;
     }
-    Number::Is(65_536 - n)
+    Some(65_536 - below)
 }

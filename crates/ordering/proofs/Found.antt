@@ -1,19 +1,15 @@
 -- What an accepted register's answers are: one for each card, each the answer of that card's bytes.
 -- Assumes nothing.
-use Rattle.std.specs.Prelude.{ℕ, zero, suc, ◌+◌, ◌*◌, ◌≤◌, ◌<◌, ◌≡◌, refl, Bool, true, false, List, [], ◌∷◌, take, drop}
+use Rattle.std.specs.Prelude.{ℕ, zero, suc, ◌+◌, ◌*◌, ◌≤◌, ◌<◌, ◌≡◌, refl, Bool, true, false, List, [], ◌∷◌, take, drop, Result, Ok, Err}
+use Rattle.refusals.specs.declared.Refusal.{Refusal}
 use Rattle.std.proofs.Common.{zero-le, suc-le-suc, arith, le_of_suc-le-suc, not-suc-le-zero, ◌∙◌, sym, ap, subst, drop-drop, le-ltb}
 use Rattle.search.specs.Laws.{clash}
 use Rattle.refusals.specs.declared.Refusal.TheVariants as refusal
 use Rattle.card.specs.declared.Answer.{Answer}
-use Rattle.card.specs.declared.Answered.{Answered}
-use Rattle.card.specs.declared.Answered.TheVariants as answered
 use Rattle.card.specs.Answers.{answer_of}
 use Rattle.farthest.specs.declared.Leaders.{Leaders}
 use Rattle.farthest.specs.Farthest.{At}
-use Rattle.header.specs.declared.Header.{Header}
-use Rattle.header.specs.declared.Header.TheVariants as header
 use Rattle.header.specs.Header.{bad_length, bad_version, bad_count, bad_buffer, header_if, header_of, count_of}
-use Rattle.walk.specs.declared.Outcome.TheVariants as outcome
 use Rattle.cards.specs.Register.{Cards, answers, sent_back, then, cards_from, cards_of, result_of, after_header, outcome_of}
 use Rattle.cards.proofs.Laws.{joined_is}
 use Rattle.ordering.specs.Claim.{card_at}
@@ -21,7 +17,7 @@ use Rattle.ordering.specs.Found.{Found}
 
 -- the answer at a place is that of the card's bytes there, after some last number
 pub AnswerAt : List ℕ → ℕ → Answer → Type 0
-AnswerAt bytes i a = (last : ℕ) × (answer_of (take 24 (drop (24 * i) bytes)) last ≡ answered.Is a)
+AnswerAt bytes i a = (last : ℕ) × (answer_of (take 24 (drop (24 * i) bytes)) last ≡ Ok a)
 
 further : (bytes : List ℕ) (i : ℕ) (a : Answer) → AnswerAt (drop 24 bytes) i a → AnswerAt bytes (suc i) a
 unfolding AnswerAt
@@ -37,15 +33,15 @@ answers_are zero place last bytes (x ∷ xs) e i a h = let z : ◌≡◌ {A = �
 answers_are (suc n) place last bytes xs e i a h =
     go (answer_of (take 24 bytes) last) refl (λ b ys. answers_are n (suc place) b.number (drop 24 bytes) ys) e i h
   where
-    at_head : (b : Answer) (ys : List Answer) → answer_of (take 24 bytes) last ≡ answered.Is b → ((k : ℕ) → At ys k a → (k < n) × AnswerAt (drop 24 bytes) k a) → (k : ℕ) → At (b ∷ ys) k a → (k < suc n) × AnswerAt bytes k a
-    at_head b ys p ih zero q = (suc-le-suc zero-le, (last, p ∙ ap answered.Is (sym q)))
+    at_head : (b : Answer) (ys : List Answer) → answer_of (take 24 bytes) last ≡ Ok b → ((k : ℕ) → At ys k a → (k < n) × AnswerAt (drop 24 bytes) k a) → (k : ℕ) → At (b ∷ ys) k a → (k < suc n) × AnswerAt bytes k a
+    at_head b ys p ih zero q = (suc-le-suc zero-le, (last, p ∙ ap Ok (sym q)))
     at_head b ys p ih (suc k) q = let r = ih k q in (suc-le-suc r.0, further bytes k a r.1)
 
-    go : (x : Answered) → answer_of (take 24 bytes) last ≡ x → ((b : Answer) (ys : List Answer) → cards_from n (suc place) b.number (drop 24 bytes) ≡ answers ys → (k : ℕ) (d : Answer) → At ys k d → (k < n) × AnswerAt (drop 24 bytes) k d) → then x place (λ k. cards_from n (suc place) k (drop 24 bytes)) ≡ answers xs → (k : ℕ) → At xs k a → (k < suc n) × AnswerAt bytes k a
-    go (answered.Is b) p ih q k w =
+    go : (x : Result Answer Refusal) → answer_of (take 24 bytes) last ≡ x → ((b : Answer) (ys : List Answer) → cards_from n (suc place) b.number (drop 24 bytes) ≡ answers ys → (k : ℕ) (d : Answer) → At ys k d → (k < n) × AnswerAt (drop 24 bytes) k d) → then x place (λ k. cards_from n (suc place) k (drop 24 bytes)) ≡ answers xs → (k : ℕ) → At xs k a → (k < suc n) × AnswerAt bytes k a
+    go (Ok b) p ih q k w =
         let j = joined_is b (cards_from n (suc place) b.number (drop 24 bytes)) q in
         at_head b j.0 p (λ k' w'. ih b j.0 j.1 k' a w') k (subst (λ (ys : List Answer). At ys k a) (sym j.2) w)
-    go (answered.Refused r) p ih q k w = let z : ◌≡◌ {A = ℕ} 0 1 = cc in clash z
+    go (Err r) p ih q k w = let z : ◌≡◌ {A = ℕ} 0 1 = cc in clash z
 
 -- every card has its answer
 pub cards_have : (n place last : ℕ) (bytes : List ℕ) (xs : List Answer) → cards_from n place last bytes ≡ answers xs → (i : ℕ) → i < n → (a : Answer) × At xs i a × AnswerAt bytes i a
@@ -54,16 +50,16 @@ cards_have zero place last bytes xs e i h = absurd (not-suc-le-zero h)
 cards_have (suc n) place last bytes xs e i h =
     go (answer_of (take 24 bytes) last) refl (λ b ys. cards_have n (suc place) b.number (drop 24 bytes) ys) e i h
   where
-    at_head : (b : Answer) (ys : List Answer) → answer_of (take 24 bytes) last ≡ answered.Is b → ((k : ℕ) → k < n → (a : Answer) × At ys k a × AnswerAt (drop 24 bytes) k a) → (k : ℕ) → k < suc n → (a : Answer) × At (b ∷ ys) k a × AnswerAt bytes k a
+    at_head : (b : Answer) (ys : List Answer) → answer_of (take 24 bytes) last ≡ Ok b → ((k : ℕ) → k < n → (a : Answer) × At ys k a × AnswerAt (drop 24 bytes) k a) → (k : ℕ) → k < suc n → (a : Answer) × At (b ∷ ys) k a × AnswerAt bytes k a
     at_head b ys p ih zero q = (b, refl, (last, p))
     at_head b ys p ih (suc k) q =
         let r = ih k (le_of_suc-le-suc q) in (r.0, r.1, further bytes k r.0 r.2)
 
-    go : (x : Answered) → answer_of (take 24 bytes) last ≡ x → ((b : Answer) (ys : List Answer) → cards_from n (suc place) b.number (drop 24 bytes) ≡ answers ys → (k : ℕ) → k < n → (a : Answer) × At ys k a × AnswerAt (drop 24 bytes) k a) → then x place (λ k. cards_from n (suc place) k (drop 24 bytes)) ≡ answers xs → (k : ℕ) → k < suc n → (a : Answer) × At xs k a × AnswerAt bytes k a
-    go (answered.Is b) p ih q k w =
+    go : (x : Result Answer Refusal) → answer_of (take 24 bytes) last ≡ x → ((b : Answer) (ys : List Answer) → cards_from n (suc place) b.number (drop 24 bytes) ≡ answers ys → (k : ℕ) → k < n → (a : Answer) × At ys k a × AnswerAt (drop 24 bytes) k a) → then x place (λ k. cards_from n (suc place) k (drop 24 bytes)) ≡ answers xs → (k : ℕ) → k < suc n → (a : Answer) × At xs k a × AnswerAt bytes k a
+    go (Ok b) p ih q k w =
         let j = joined_is b (cards_from n (suc place) b.number (drop 24 bytes)) q in
         subst (λ (ys : List Answer). (a : Answer) × At ys k a × AnswerAt bytes k a) j.2 (at_head b j.0 p (ih b j.0 j.1) k w)
-    go (answered.Refused r) p ih q k w = let z : ◌≡◌ {A = ℕ} 0 1 = cc in clash z
+    go (Err r) p ih q k w = let z : ◌≡◌ {A = ℕ} 0 1 = cc in clash z
 
 -- a good header: none of the checks 1 to 4 refuses, and it gives the card count
 pub record Checked (bytes : List ℕ) (room n : ℕ) : Type 0 where
@@ -73,12 +69,12 @@ pub record Checked (bytes : List ℕ) (room n : ℕ) : Type 0 where
   pub buffer : bad_buffer bytes room ≡ false
   pub count : count_of bytes ≡ n
 
-pub checked : (bytes : List ℕ) (room n : ℕ) → header_of bytes room ≡ header.Good n → Checked bytes room n
+pub checked : (bytes : List ℕ) (room n : ℕ) → header_of bytes room ≡ Ok n → Checked bytes room n
 unfolding header_of
 checked bytes room n = go (bad_length bytes) (bad_version bytes) (bad_count bytes) (bad_buffer bytes room) refl refl refl refl
   where
     go : (a b c d : Bool) → bad_length bytes ≡ a → bad_version bytes ≡ b → bad_count bytes ≡ c → bad_buffer bytes room ≡ d
-        → header_if a refusal.Length (header_if b refusal.Version (header_if c refusal.Count (header_if d refusal.Buffer (header.Good (count_of bytes))))) ≡ header.Good n
+        → header_if a refusal.Length (header_if b refusal.Version (header_if c refusal.Count (header_if d refusal.Buffer (Ok (count_of bytes))))) ≡ Ok n
         → Checked bytes room n
     go true b c d p q r s e = clash (cc)
     go false true c d p q r s e = clash (cc)
@@ -86,58 +82,58 @@ checked bytes room n = go (bad_length bytes) (bad_version bytes) (bad_count byte
     go false false false true p q r s e = clash (cc)
     go false false false false p q r s e = record { whole = p; version = q; cards = r; buffer = s; count = good_is e }
       where
-        good_is : {m k : ℕ} → header.Good m ≡ header.Good k → m ≡ k
+        good_is : {m k : ℕ} → Ok m ≡ Ok k → m ≡ k
         good_is u = cc
 
-pub header_count : (bytes : List ℕ) (room n : ℕ) → header_of bytes room ≡ header.Good n → count_of bytes ≡ n
+pub header_count : (bytes : List ℕ) (room n : ℕ) → header_of bytes room ≡ Ok n → count_of bytes ≡ n
 header_count bytes room n e = (checked bytes room n e).count
 
 -- acceptance and both farthest cards are the same with every buffer that number 4 lets pass
-any_header : (bytes : List ℕ) (room other : ℕ) (h : Header) {l : Leaders} → header_of bytes room ≡ h → 16 * count_of bytes ≤ other → after_header h bytes ≡ outcome.Accepted l → after_header (header_of bytes other) bytes ≡ outcome.Accepted l
+any_header : (bytes : List ℕ) (room other : ℕ) (h : Result ℕ Refusal) {l : Leaders} → header_of bytes room ≡ h → 16 * count_of bytes ≤ other → after_header h bytes ≡ Ok l → after_header (header_of bytes other) bytes ≡ Ok l
 unfolding header_of bad_buffer
-any_header bytes room other (header.Good n) p k e =
+any_header bytes room other (Ok n) p k e =
     let c = checked bytes room n p in
-    let q : header_of bytes other ≡ header.Good n = rw (c.whole, c.version, c.cards, le-ltb other (16 * count_of bytes) k) (ap header.Good c.count) in
+    let q : header_of bytes other ≡ Ok n = rw (c.whole, c.version, c.cards, le-ltb other (16 * count_of bytes) k) (ap Ok c.count) in
     ap (λ y. after_header y bytes) q ∙ e
-any_header bytes room other (header.Refused r) p k e = clash (cc)
+any_header bytes room other (Err r) p k e = clash (cc)
 
-pub any_room : (bytes : List ℕ) (room other : ℕ) {l : Leaders} → outcome_of bytes room ≡ outcome.Accepted l → 16 * count_of bytes ≤ other → outcome_of bytes other ≡ outcome.Accepted l
+pub any_room : (bytes : List ℕ) (room other : ℕ) {l : Leaders} → outcome_of bytes room ≡ Ok l → 16 * count_of bytes ≤ other → outcome_of bytes other ≡ Ok l
 unfolding outcome_of
 any_room bytes room other e k = any_header bytes room other (header_of bytes room) refl k e
 
-cards_found : (bytes : List ℕ) (n : ℕ) (c : Cards) {l : Leaders} → count_of bytes ≡ n → cards_of n bytes ≡ c → result_of c ≡ outcome.Accepted l → Found bytes l
+cards_found : (bytes : List ℕ) (n : ℕ) (c : Cards) {l : Leaders} → count_of bytes ≡ n → cards_of n bytes ≡ c → result_of c ≡ Ok l → Found bytes l
 unfolding cards_of
 cards_found bytes n (answers xs) k p e =
     record { list = xs; cards = ap (λ y. cards_from y 0 0 (drop 7 bytes)) k ∙ p; leads = accepted_is e }
   where
-    accepted_is : {l m : Leaders} → outcome.Accepted l ≡ outcome.Accepted m → l ≡ m
+    accepted_is : {l m : Leaders} → Ok l ≡ Ok m → l ≡ m
     accepted_is q = cc
 cards_found bytes n (sent_back r place) k p e = let z : ◌≡◌ {A = ℕ} 0 1 = cc in clash z
 
-header_found : (bytes : List ℕ) (room : ℕ) (h : Header) {l : Leaders} → header_of bytes room ≡ h → after_header h bytes ≡ outcome.Accepted l → Found bytes l
-header_found bytes room (header.Good n) p e = cards_found bytes n (cards_of n bytes) (header_count bytes room n p) refl e
-header_found bytes room (header.Refused r) p e = let z : ◌≡◌ {A = ℕ} 0 1 = cc in clash z
+header_found : (bytes : List ℕ) (room : ℕ) (h : Result ℕ Refusal) {l : Leaders} → header_of bytes room ≡ h → after_header h bytes ≡ Ok l → Found bytes l
+header_found bytes room (Ok n) p e = cards_found bytes n (cards_of n bytes) (header_count bytes room n p) refl e
+header_found bytes room (Err r) p e = let z : ◌≡◌ {A = ℕ} 0 1 = cc in clash z
 
-pub found : (bytes : List ℕ) (room : ℕ) {l : Leaders} → outcome_of bytes room ≡ outcome.Accepted l → Found bytes l
+pub found : (bytes : List ℕ) (room : ℕ) {l : Leaders} → outcome_of bytes room ≡ Ok l → Found bytes l
 unfolding outcome_of
 found bytes room e = header_found bytes room (header_of bytes room) refl e
 
 -- the same in the bytes of the whole register
-at_card : (bytes : List ℕ) (i : ℕ) (a : Answer) → AnswerAt (drop 7 bytes) i a → (last : ℕ) × (answer_of (card_at bytes i) last ≡ answered.Is a)
+at_card : (bytes : List ℕ) (i : ℕ) (a : Answer) → AnswerAt (drop 7 bytes) i a → (last : ℕ) × (answer_of (card_at bytes i) last ≡ Ok a)
 unfolding AnswerAt
 at_card bytes i a h =
     (h.0, ap (λ (b : List ℕ). answer_of (take 24 b) h.0) (sym (drop-drop (24 * i) 7 bytes)) ∙ h.1)
 
-module _ (bytes : List ℕ) (room : ℕ) {l : Leaders} (e : outcome_of bytes room ≡ outcome.Accepted l) where
+module _ (bytes : List ℕ) (room : ℕ) {l : Leaders} (e : outcome_of bytes room ≡ Ok l) where
   -- every answer of an accepted register is that of a card of it
-  pub from_card : (i : ℕ) (a : Answer) → At (found bytes room e).list i a → (i < count_of bytes) × (last : ℕ) × (answer_of (card_at bytes i) last ≡ answered.Is a)
+  pub from_card : (i : ℕ) (a : Answer) → At (found bytes room e).list i a → (i < count_of bytes) × (last : ℕ) × (answer_of (card_at bytes i) last ≡ Ok a)
   from_card i a h =
       let r = answers_are (count_of bytes) 0 0 (drop 7 bytes) (found bytes room e).list (found bytes room e).cards i a h in
       let k = at_card bytes i a r.1 in
       (r.0, k.0, k.1)
 
   -- every card of an accepted register has its answer
-  pub to_card : (i : ℕ) → i < count_of bytes → (a : Answer) × At (found bytes room e).list i a × (last : ℕ) × (answer_of (card_at bytes i) last ≡ answered.Is a)
+  pub to_card : (i : ℕ) → i < count_of bytes → (a : Answer) × At (found bytes room e).list i a × (last : ℕ) × (answer_of (card_at bytes i) last ≡ Ok a)
   to_card i h =
       let r = cards_have (count_of bytes) 0 0 (drop 7 bytes) (found bytes room e).list (found bytes room e).cards i h in
       let k = at_card bytes i r.0 r.2 in

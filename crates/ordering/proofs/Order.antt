@@ -1,20 +1,17 @@
 -- The counterpart of a card, from the bytes, and the law on two cards: a counterpart never answers less.
 -- Assumes nothing.
-use Rattle.std.specs.Prelude.{ℕ, ◌≤◌, ◌<◌, ◌≡◌, refl, Bool, true, false, List, ◌⊎◌, leb, eqb}
+use Rattle.std.specs.Prelude.{ℕ, ◌≤◌, ◌<◌, ◌≡◌, refl, Bool, true, false, List, ◌⊎◌, leb, eqb, Option, Some, None, Result, Ok, Err}
+use Rattle.units.specs.declared.Miles.{Miles}
 use Rattle.std.proofs.Common.{arith, ◌∙◌, sym, ap, inl, inr, ⊎_elim, leb-false}
 use Rattle.std.proofs.lemmas.Bool.{lt-leb}
 use Rattle.search.specs.Laws.{clash}
 use Rattle.search.specs.Places.{either}
-use Rattle.units.specs.declared.Reading.{Reading}
-use Rattle.units.specs.declared.Reading.TheVariants as reading
 use Rattle.dispersion.specs.Tables.{reading_of}
 use Rattle.dispersion.proofs.Laws.{reading_mono}
 use Rattle.blast.specs.Blast.{ring_of}
 use Rattle.blast.proofs.Laws.{fuller_no_smaller}
 use Rattle.scenario.specs.declared.ToxicCard.{ToxicCard}
 use Rattle.scenario.specs.declared.Scenario.{Scenario}
-use Rattle.scenario.specs.declared.Planned.{Planned}
-use Rattle.scenario.specs.declared.Planned.TheVariants as planned
 use Rattle.scenario.specs.Plan.{plan_of}
 use Rattle.scenario.specs.Order.{Fuller, plan_faster}
 use Rattle.fields.specs.declared.Fields.{Fields}
@@ -32,36 +29,35 @@ use Rattle.meaning.specs.States.{same_entry, same_tenths}
 use Rattle.meaning.specs.Inverse.{ToxicFrom, FlammableFrom, toxic_from, flammable_from}
 use Rattle.card.specs.declared.Class.TheVariants as class
 use Rattle.card.specs.declared.Answer.{Answer}
-use Rattle.card.specs.declared.Answered.TheVariants as answered
 use Rattle.card.specs.Answers.{read_toxic, planned_answer, answer_for, answer_of}
 use Rattle.ordering.specs.Order.{kind_of, route_in, table_in, route_of, table_of, Counterpart}
 
-answer_is : {a b : Answer} → answered.Is a ≡ answered.Is b → a ≡ b
+answer_is : {a b : Answer} → Ok a ≡ Ok b → a ≡ b
 answer_is e = cc
 
-refused_not : {r : Refusal} {a : Answer} → answered.Refused r ≡ answered.Is a → ⊥
+refused_not : {r : Refusal} {a : Answer} → Err r ≡ Ok a → ⊥
 refused_not e = let z : ◌≡◌ {A = ℕ} 0 1 = cc in clash z
 
 -- what a toxic answer was read from
 record ToxicAnswer (card : ToxicCard) (a : Answer) : Type 0 where
   scenario : Scenario
-  plan : plan_of card ≡ planned.Planned scenario
+  plan : plan_of card ≡ Some scenario
   class : a.class ≡ class.Toxic
   route : scenario.route ≡ a.route
   table : scenario.table ≡ a.table
-  reading : reading_of scenario.table card.topography scenario.rate.0 scenario.endpoint ≡ reading.Distance a.distance
+  reading : reading_of scenario.table card.topography scenario.rate.0 scenario.endpoint ≡ Some a.distance
 
-read_toxic_lem : (x : Reading) (n : ℕ) (s : Scenario) {a : Answer} → read_toxic x n s ≡ answered.Is a → (a.class ≡ class.Toxic) × (s.route ≡ a.route) × (s.table ≡ a.table) × (x ≡ reading.Distance a.distance)
-read_toxic_lem (reading.Distance d) n s e =
+read_toxic_lem : (x : Option Miles) (n : ℕ) (s : Scenario) {a : Answer} → read_toxic x n s ≡ Ok a → (a.class ≡ class.Toxic) × (s.route ≡ a.route) × (s.table ≡ a.table) × (x ≡ Some a.distance)
+read_toxic_lem (Some d) n s e =
     let same = answer_is e in
-    (sym (ap (λ (b : Answer). b.class) same), ap (λ (b : Answer). b.route) same, ap (λ (b : Answer). b.table) same, ap (λ (b : Answer). reading.Distance b.distance) same)
-read_toxic_lem reading.Beyond n s e = absurd (refused_not e)
+    (sym (ap (λ (b : Answer). b.class) same), ap (λ (b : Answer). b.route) same, ap (λ (b : Answer). b.table) same, ap (λ (b : Answer). Some b.distance) same)
+read_toxic_lem None n s e = absurd (refused_not e)
 
-toxic_answer : (card : ToxicCard) (p : Planned) (n : ℕ) {a : Answer} → plan_of card ≡ p → planned_answer p n card ≡ answered.Is a → ToxicAnswer card a
-toxic_answer card (planned.Planned s) n q e =
+toxic_answer : (card : ToxicCard) (p : Option Scenario) (n : ℕ) {a : Answer} → plan_of card ≡ p → planned_answer p n card ≡ Ok a → ToxicAnswer card a
+toxic_answer card (Some s) n q e =
     let t = read_toxic_lem (reading_of s.table card.topography s.rate.0 s.endpoint) n s e in
     record { scenario = s; plan = q; class = t.0; route = t.1; table = t.2; reading = t.3 }
-toxic_answer card planned.Mismatch n q e = absurd (refused_not e)
+toxic_answer card None n q e = absurd (refused_not e)
 
 -- a card that is answered is a toxic or a flammable one
 record ToxicBytes (f : Fields) (a : Answer) : Type 0 where
@@ -75,10 +71,10 @@ record FlammableBytes (f : Fields) (a : Answer) : Type 0 where
   class : a.class ≡ class.Flammable
   distance : ring_of card.cas card.quantity.0 ≡ a.distance
 
-answered_from : (f : Fields) (last : ℕ) (m : Meaning) {a : Answer} → meaning_of f last ≡ m → answer_for m f.number ≡ answered.Is a → ToxicBytes f a ⊎ FlammableBytes f a
-answered_from f last (meaning.Toxic card) p e =
+answered_from : (f : Fields) (last : ℕ) (m : Result Meaning Refusal) {a : Answer} → meaning_of f last ≡ m → answer_for m f.number ≡ Ok a → ToxicBytes f a ⊎ FlammableBytes f a
+answered_from f last (Ok (meaning.Toxic card)) p e =
     inl (record { card = card; from = toxic_from f last p; answer = toxic_answer card (plan_of card) f.number refl e })
-answered_from f last (meaning.Flammable card) p e =
+answered_from f last (Ok (meaning.Flammable card)) p e =
     let same = answer_is e in
     inr
     (record {
@@ -87,9 +83,9 @@ answered_from f last (meaning.Flammable card) p e =
       class = sym (ap (λ (b : Answer). b.class) same);
       distance = ap (λ (b : Answer). b.distance) same;
     })
-answered_from f last (meaning.Refused r) p e = absurd (refused_not e)
+answered_from f last (Err r) p e = absurd (refused_not e)
 
-from_bytes : (x : List ℕ) (last : ℕ) {a : Answer} → answer_of x last ≡ answered.Is a → ToxicBytes (fields_of x) a ⊎ FlammableBytes (fields_of x) a
+from_bytes : (x : List ℕ) (last : ℕ) {a : Answer} → answer_of x last ≡ Ok a → ToxicBytes (fields_of x) a ⊎ FlammableBytes (fields_of x) a
 unfolding answer_of
 from_bytes x last e = answered_from (fields_of x) last (meaning_of (fields_of x) last) refl e
 
@@ -102,22 +98,22 @@ number_first n last e = go (eqb n 0) e
     go true q = q
     go false q = lt-leb n 0 (let h : last < n = leb-false n last q in omega arith)
 
-meaning_first : (f : Fields) (last : ℕ) (b : Bool) {a : Answer} → bad_number f.number last ≡ b → answer_for (meaning_if b refusal.Number (shaped (shape_of f) f)) f.number ≡ answered.Is a → answer_for (meaning_of f 0) f.number ≡ answered.Is a
+meaning_first : (f : Fields) (last : ℕ) (b : Bool) {a : Answer} → bad_number f.number last ≡ b → answer_for (meaning_if b refusal.Number (shaped (shape_of f) f)) f.number ≡ Ok a → answer_for (meaning_of f 0) f.number ≡ Ok a
 unfolding meaning_of
 meaning_first f last true p e = absurd (refused_not e)
 meaning_first f last false p e =
     let q : bad_number f.number 0 ≡ false = number_first f.number last p in
     ap (λ t. answer_for (meaning_if t refusal.Number (shaped (shape_of f) f)) f.number) q ∙ e
 
-pub answer_first : (x : List ℕ) (last : ℕ) {a : Answer} → answer_of x last ≡ answered.Is a → answer_of x 0 ≡ answered.Is a
+pub answer_first : (x : List ℕ) (last : ℕ) {a : Answer} → answer_of x last ≡ Ok a → answer_of x 0 ≡ Ok a
 unfolding answer_of meaning_of
 answer_first x last e = meaning_first (fields_of x) last (bad_number (fields_of x).number last) refl e
 
-pub route_is : (x : List ℕ) (last : ℕ) {a : Answer} → answer_of x last ≡ answered.Is a → route_of x ≡ a.route
+pub route_is : (x : List ℕ) (last : ℕ) {a : Answer} → answer_of x last ≡ Ok a → route_of x ≡ a.route
 unfolding route_of
 route_is x last e = ap route_in (answer_first x last e)
 
-pub table_is : (x : List ℕ) (last : ℕ) {a : Answer} → answer_of x last ≡ answered.Is a → table_of x ≡ a.table
+pub table_is : (x : List ℕ) (last : ℕ) {a : Answer} → answer_of x last ≡ Ok a → table_of x ≡ a.table
 unfolding table_of
 table_is x last e = ap table_in (answer_first x last e)
 
@@ -174,7 +170,7 @@ toxic_ordered {f} {g} {a} {b} s x y r t =
     let u = p.scenario in
     let v = q.scenario in
     let same_table : v.table ≡ u.table = q.table ∙ (sym t ∙ sym p.table) in
-    let far : reading_of u.table x.card.topography v.rate.0 u.endpoint ≡ reading.Distance b.distance =
+    let far : reading_of u.table x.card.topography v.rate.0 u.endpoint ≡ Some b.distance =
     ap (λ k. reading_of k x.card.topography v.rate.0 u.endpoint) (sym same_table)
     ∙ (ap (λ k. reading_of v.table k v.rate.0 u.endpoint) f'.topography
     ∙ (ap (λ k. reading_of v.table y.card.topography v.rate.0 k) h.endpoint ∙ q.reading)) in
@@ -201,7 +197,7 @@ ordered s r t (inl x) (inr y) =
 ordered s r t (inr x) (inl y) =
     let z : ◌≡◌ {A = ℕ} 2 1 = sym x.from.kind ∙ (s.kind ∙ y.from.kind) in absurd (omega arith)
 
-pub cards_ordered : (x y : List ℕ) (last next : ℕ) {a b : Answer} → Counterpart x y → answer_of x last ≡ answered.Is a → answer_of y next ≡ answered.Is b → NoLess a b
+pub cards_ordered : (x y : List ℕ) (last next : ℕ) {a b : Answer} → Counterpart x y → answer_of x last ≡ Ok a → answer_of y next ≡ Ok b → NoLess a b
 cards_ordered x y last next c p q =
     ordered (same_fields c)
     (sym (route_is x last p) ∙ (c.route ∙ route_is y next q))
@@ -210,7 +206,7 @@ cards_ordered x y last next c p q =
     (from_bytes y next q)
 
 -- the class of an answered card is its kind
-pub class_is : (x : List ℕ) (last : ℕ) {a : Answer} → answer_of x last ≡ answered.Is a → byte_at x 0 ≡ kind_of a.class
+pub class_is : (x : List ℕ) (last : ℕ) {a : Answer} → answer_of x last ≡ Ok a → byte_at x 0 ≡ kind_of a.class
 unfolding fields_of
 class_is x last {a} e =
     ⊎_elim (λ (t : ToxicBytes (fields_of x) a). t.from.kind ∙ ap kind_of (sym t.answer.class)) (λ (t : FlammableBytes (fields_of x) a). t.from.kind ∙ ap kind_of (sym t.class)) (from_bytes x last e)

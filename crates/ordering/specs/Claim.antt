@@ -1,15 +1,14 @@
 -- Demand 3, in the words of document 01: what it says of two registers. The theorem is `rings_ordered` of `Ordering`.
 -- Assumes nothing.
-use Rattle.std.specs.Prelude.{ℕ, ◌+◌, ◌*◌, ◌<◌, ◌≡◌, List, take, drop, length}
+use Rattle.std.specs.Prelude.{ℕ, ◌+◌, ◌*◌, ◌<◌, ◌≡◌, List, take, drop, length, Option, Ok}
+use Rattle.farthest.specs.declared.Leader.{Leader}
 use Rattle.buffer.specs.Numbers.{byte_at}
 use Rattle.card.specs.declared.Class.{Class}
 use Rattle.card.specs.declared.Class.TheVariants as class
 use Rattle.ordering.specs.Order.{kind_of, Counterpart}
 use Rattle.farthest.specs.declared.Leaders.{Leaders}
-use Rattle.farthest.specs.declared.Farthest.{Farthest}
 use Rattle.farthest.specs.Farthest.{NoFarther}
 use Rattle.header.specs.Header.{header_size, card_size, count_of}
-use Rattle.walk.specs.declared.Outcome.TheVariants as outcome
 use Rattle.cards.specs.Register.{outcome_of}
 
 -- "Demand 3 reads its cards from the bytes handed in": the 24 bytes of the card at a place
@@ -19,10 +18,10 @@ card_at register i = take card_size (drop (header_size + card_size * i) register
 -- "A register is accepted if the call that fills the answer buffer gives no refusal for it with some answer buffer; its
 -- farthest distances are those in that call's result": what the call answers for these bytes and this buffer
 abbrev pub Accepts : List ℕ → List ℕ → Leaders → Type 0
-Accepts register buffer leaders = outcome_of register (length buffer) ≡ outcome.Accepted leaders
+Accepts register buffer leaders = outcome_of register (length buffer) ≡ Ok leaders
 
 -- "A class is kind 1 or kind 2.": the farthest card of a class in a call's result
-abbrev pub farthest_in : Class → Leaders → Farthest
+abbrev pub farthest_in : Class → Leaders → Option Leader
 farthest_in class.Toxic leaders = leaders.toxic
 farthest_in class.Flammable leaders = leaders.flammable
 

@@ -1,11 +1,11 @@
 -- The counterpart of a card, from the bytes, and the law on two cards: a counterpart never answers less.
 -- Assumes nothing.
-use Rattle.std.specs.Prelude.{ℕ, ◌≤◌, ◌≡◌, List}
+use Rattle.std.specs.Prelude.{ℕ, ◌≤◌, ◌≡◌, List, Result, Ok, Err}
+use Rattle.card.specs.declared.Answer.{Answer}
+use Rattle.refusals.specs.declared.Refusal.{Refusal}
 use Rattle.buffer.specs.Numbers.{byte_at, two_at, four_at}
 use Rattle.card.specs.declared.Class.{Class}
 use Rattle.card.specs.declared.Class.TheVariants as class
-use Rattle.card.specs.declared.Answered.{Answered}
-use Rattle.card.specs.declared.Answered.TheVariants as answered
 use Rattle.card.specs.Answers.{answer_of}
 
 -- "A class is kind 1 or kind 2."
@@ -14,13 +14,13 @@ kind_of class.Toxic = 1
 kind_of class.Flammable = 2
 
 -- "Route and table are the numbers that demand 2 gives a card": those of its answer as a first card; 0 where it has none
-abbrev pub route_in : Answered → ℕ
-route_in (answered.Is a) = a.route
-route_in (answered.Refused r) = 0
+abbrev pub route_in : Result Answer Refusal → ℕ
+route_in (Ok a) = a.route
+route_in (Err r) = 0
 
-abbrev pub table_in : Answered → ℕ
-table_in (answered.Is a) = a.table
-table_in (answered.Refused r) = 0
+abbrev pub table_in : Result Answer Refusal → ℕ
+table_in (Ok a) = a.table
+table_in (Err r) = 0
 
 unfoldable pub route_of : List ℕ → ℕ
 route_of card = route_in (answer_of card 0)

@@ -8,12 +8,9 @@ ghost use Rattle.pieces.specs.Pieces.{before};
 pub fn end_of(text: &[u8], at: usize, separator: u8) -> usize
     ensures { result ≡ at + length (before separator (drop at text.now)) }
 {
-    let mut end = at;
-    while end < text.len() {
-        if text[end] == separator {
-            return end;
-        }
-        end += 1;
+    if text.len() < at {
+        return at;
     }
-    end
+    let piece = text[at..].iter().position(|&b| b == separator);
+    piece.map_or(text.len(), |length| at + length)
 }

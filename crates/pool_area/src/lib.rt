@@ -2,7 +2,6 @@
 #![tactic(auto)]
 
 ghost use Rattle.std.specs.Prelude.{◌≡◌};
-ghost use Prim.Native.Nat.{min};
 ghost use Rattle.pool_area.specs.Pool.{full_area, diked_area, pool_area, beyond_dike};
 
 use release::{Containment, Dike};
@@ -13,12 +12,6 @@ fn full_area(quantity: Pounds, df: u8) -> u64
 {
     let pounds = quantity.0;
     (pounds as u64) * (df as u64)
-}
-
-fn smaller(a: u64, b: u64) -> u64
-    ensures { result ≡ Prim.Native.Nat.min a b }
-{
-    if a <= b { a } else { b }
 }
 
 // What an overflowing dike's pool covers, in whole hundredths: the closed form that the law `diked_closed` has.
@@ -50,11 +43,11 @@ pub fn pool_area(quantity: Pounds, df: u8, containment: Containment) -> SquareFe
         Containment::Dike(dike) => SquareFeet(diked_area(quantity, df, dike)),
         Containment::Building(building) => {
             let floor = building.floor.0;
-            SquareFeet(smaller(floor, full_area(quantity, df)))
+            SquareFeet(floor.min(full_area(quantity, df)))
         }
         Containment::ShedWithDoors(shed) => {
             let floor = shed.floor.0;
-            SquareFeet(smaller(floor, full_area(quantity, df)))
+            SquareFeet(floor.min(full_area(quantity, df)))
         }
     }
 }

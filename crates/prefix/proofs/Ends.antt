@@ -1,5 +1,9 @@
 -- One law for each return: what the two parts of the walk end with is what the definition says of all cards.
 -- Assumes nothing.
+use Rattle.std.specs.Prelude.{Result, Ok, Err}
+use Rattle.farthest.specs.declared.Leaders.{Leaders}
+use Rattle.refusals.specs.declared.SentBack.{SentBack}
+use Rattle.refusals.specs.Numbers.{refused_at}
 use Prim.Native.Nat.{ℕ, ◌+◌, ◌-◌, ◌*◌, ◌≤◌}
 use native.Mathlib.Omega.{arith}
 use mathlib.Core.Path.{◌≡◌, ◌∙◌, refl, ap, sym, subst}
@@ -9,16 +13,10 @@ use lib.Seq.{take_at}
 use Rattle.refusals.specs.declared.Refusal.{Refusal}
 use Rattle.card.specs.declared.Answer.{Answer}
 use Rattle.farthest.specs.Farthest.{leaders_of}
-use Rattle.header.specs.declared.Header.{Header}
-use Rattle.header.specs.declared.Header.TheVariants as header
 use Rattle.header.specs.Header.{enough, header_of, header_refusal}
-use Rattle.walk.specs.declared.Outcome.{Outcome}
-use Rattle.walk.specs.declared.Outcome.TheVariants as outcome
 use Rattle.running.specs.declared.Running.{Running}
 use Rattle.running.specs.Running.{before_cards}
 use Rattle.running.proofs.Laws.{running_place}
-use Rattle.walk.specs.declared.Walked.{Walked}
-use Rattle.walk.specs.declared.Walked.TheVariants as walked
 use Rattle.walk.specs.declared.Writes.TheVariants as writes
 use Rattle.walk.specs.Walk.{walk_from, end_of}
 use Rattle.cards.specs.Register.{cards_from, cards_of}
@@ -31,19 +29,19 @@ use Rattle.prefix.proofs.Kept.{keeps, all_cards, refused_first}
 
 -- ---- the two parts of the walk
 
-module _ (first count : ℕ) (bytes : List ℕ) (h : first ≤ count) (x : Walked) (e : x ≡ walk_from writes.Nothing first before_cards 0 bytes) where
+module _ (first count : ℕ) (bytes : List ℕ) (h : first ≤ count) (x : Result (Running × ℕ) (SentBack ℕ)) (e : x ≡ walk_from writes.Nothing first before_cards 0 bytes) where
   parts : first + (count - first) ≡ count
   parts = omega arith
 
   -- it stopped in the first part
-  pub first_stopped : (r : Refusal) (p : ℕ) (y : Outcome) → x ≡ walked.Refused r p → y ≡ end_of x → y ≡ result_after first (cards_from count 0 0 bytes)
+  pub first_stopped : (r : Refusal) (p : ℕ) (y : Result Leaders (SentBack ℕ)) → x ≡ Err (refused_at r p) → y ≡ end_of x → y ≡ result_after first (cards_from count 0 0 bytes)
   first_stopped r p y q g =
       g
       ∙ (ap end_of q
       ∙ ap (result_after first)
       (sym (ap (λ n. cards_from n 0 0 bytes) (sym parts) ∙ cut_sent_back first (count - first) 0 0 bytes r p (stopped writes.Nothing first before_cards bytes r p (sym e ∙ q)))))
 
-  module _ (t : Running) (size : ℕ) (q : x ≡ walked.On t size) where
+  module _ (t : Running) (size : ℕ) (q : x ≡ Ok (t, size)) where
     first_part : Passed writes.Nothing first before_cards bytes t size
     first_part = passed writes.Nothing first before_cards bytes t size (sym e ∙ q)
 
@@ -72,9 +70,9 @@ module _ (first count : ℕ) (bytes : List ℕ) (h : first ≤ count) (x : Walke
         ∙ (ap (λ (s : Running). in_front first_part.list (cards_from (count - first) s.place s.last (drop (24 * first) bytes))) first_part.running
         ∙ ap (λ n. in_front first_part.list (cards_from (count - n) t.place t.last (drop (24 * n) bytes))) (sym place_is)))
 
-    module _ (y : Walked) (f : y ≡ walk_from writes.Nothing (count - t.place) t 0 (drop (24 * t.place) bytes)) where
+    module _ (y : Result (Running × ℕ) (SentBack ℕ)) (f : y ≡ walk_from writes.Nothing (count - t.place) t 0 (drop (24 * t.place) bytes)) where
       -- it stopped behind the first part
-      pub rest_stopped : (r : Refusal) (p : ℕ) (z : Outcome) → y ≡ walked.Refused r p → z ≡ end_of y → z ≡ result_after first (cards_from count 0 0 bytes)
+      pub rest_stopped : (r : Refusal) (p : ℕ) (z : Result Leaders (SentBack ℕ)) → y ≡ Err (refused_at r p) → z ≡ end_of y → z ≡ result_after first (cards_from count 0 0 bytes)
       rest_stopped r p z u g =
           g
           ∙ (ap end_of u
@@ -82,23 +80,23 @@ module _ (first count : ℕ) (bytes : List ℕ) (h : first ≤ count) (x : Walke
           (sym (cut ∙ (ap (in_front list) (stopped writes.Nothing (count - t.place) t (drop (24 * t.place) bytes) r p (sym f ∙ u)) ∙ front_sent_back list r p))))
 
       -- it passed every card
-      pub all_passed : (u : Running) (n : ℕ) → y ≡ walked.On u n → outcome.Accepted t.leaders ≡ result_after first (cards_from count 0 0 bytes)
+      pub all_passed : (u : Running) (n : ℕ) → y ≡ Ok (u, n) → Ok t.leaders ≡ result_after first (cards_from count 0 0 bytes)
       unfolding list
       all_passed u n g =
           let rest = passed writes.Nothing (count - t.place) t (drop (24 * t.place) bytes) u n (sym f ∙ g) in
-          ap outcome.Accepted
+          ap Ok
           (passed_leaders writes.Nothing first bytes t size first_part
           ∙ ap leaders_of (sym (take_at first_part.list rest.list first list_length)))
           ∙ ap (result_after first) (sym (cut ∙ (ap (in_front list) rest.cards ∙ front_answers list rest.list)))
 
 -- ---- the whole call, from its header on
 
-module _ (bytes : List ℕ) (k : ℕ) (h : Header) (e : h ≡ header_of bytes enough) where
+module _ (bytes : List ℕ) (k : ℕ) (h : Result ℕ Refusal) (e : h ≡ header_of bytes enough) where
   -- a header that is refused is the register's own refusal
-  pub header_told : (r s : Refusal) → h ≡ header.Refused r → s ≡ header_refusal h → outcome.Refused s 0 ≡ prefix_of bytes k
+  pub header_told : (r s : Refusal) → h ≡ Err r → s ≡ header_refusal h → Err (refused_at s 0) ≡ prefix_of bytes k
   header_told r s q g = sym (refused_first bytes k s 0 (sym (header_refused bytes enough h e r s q g)))
 
-  module _ (n : ℕ) (x : Outcome) (q : h ≡ header.Good n) where
+  module _ (n : ℕ) (x : Result Leaders (SentBack ℕ)) (q : h ≡ Ok n) where
     good_is : result_after k (cards_from n 0 0 (take (length bytes - 7) (drop 7 bytes))) ≡ prefix_of bytes k
     unfolding prefix_of cards_of
     good_is = ap (λ y. result_after k (cards_from n 0 0 y)) (behind_header bytes) ∙ ap (λ y. result_behind k y bytes) (sym q ∙ e)
@@ -114,5 +112,5 @@ module _ (bytes : List ℕ) (k : ℕ) (h : Header) (e : h ≡ header_of bytes en
         ∙ (sym (all_cards n k 0 0 rest (cards_from n 0 0 rest) refl l) ∙ good_is))
 
 -- what equals the definition keeps the paper's words
-pub kept : (bytes : List ℕ) (k : ℕ) (x : Outcome) → x ≡ prefix_of bytes k → Keeps bytes k x
+pub kept : (bytes : List ℕ) (k : ℕ) (x : Result Leaders (SentBack ℕ)) → x ≡ prefix_of bytes k → Keeps bytes k x
 kept bytes k x e = subst (Keeps bytes k) (sym e) (keeps bytes k)

@@ -1,6 +1,9 @@
 -- The definition of the leaders after the first k cards says what the paper's words say (`Claim.antt`).
 -- Assumes nothing.
-use Rattle.std.specs.Prelude.{ℕ, zero, suc, ◌≤◌, ◌<◌, ◌≡◌, refl, List, [], ◌∷◌, take, drop}
+use Rattle.std.specs.Prelude.{ℕ, zero, suc, ◌≤◌, ◌<◌, ◌≡◌, refl, List, [], ◌∷◌, take, drop, Some, Result, Ok, Err}
+use Rattle.refusals.specs.declared.SentBack.{SentBack}
+use Rattle.farthest.specs.Farthest.{leader}
+use Rattle.refusals.specs.Numbers.{refused_at}
 use Rattle.std.proofs.Common.{zero-le, suc-le-suc, le_of_suc-le-suc, not-suc-le-zero, arith, ◌∙◌, sym, ap, subst, take_all}
 use Rattle.search.specs.Laws.{clash}
 use Rattle.units.specs.declared.Miles.{Miles}
@@ -10,20 +13,14 @@ use Rattle.refusals.specs.declared.Refusal.{Refusal}
 use Rattle.card.specs.declared.Class.{Class}
 use Rattle.card.specs.declared.Class.TheVariants as class
 use Rattle.card.specs.declared.Answer.{Answer}
-use Rattle.card.specs.declared.Answered.TheVariants as answered
 use Rattle.card.specs.Answers.{answer_of}
 use Rattle.ordering.specs.Order.{kind_of}
 use Rattle.ordering.proofs.Order.{answer_first, class_is}
 use Rattle.card.specs.Number.{answer_number}
-use Rattle.farthest.specs.declared.Farthest.TheVariants as farthest
 use Rattle.farthest.specs.declared.Leaders.{Leaders}
 use Rattle.farthest.specs.Farthest.{At, Reaches, farthest_of, leaders_of}
 use Rattle.farthest.proofs.Laws.{reaches, leads, none_only, none_if}
-use Rattle.header.specs.declared.Header.{Header}
-use Rattle.header.specs.declared.Header.TheVariants as header
 use Rattle.header.specs.Header.{enough, header_of, count_of}
-use Rattle.walk.specs.declared.Outcome.{Outcome}
-use Rattle.walk.specs.declared.Outcome.TheVariants as outcome
 use Rattle.cards.specs.Register.{Cards, answers, sent_back, cards_from, cards_of, result_of, after_header, outcome_of}
 use Rattle.cards.proofs.Laws.{cards_count}
 use Rattle.ordering.specs.Claim.{card_at}
@@ -55,17 +52,17 @@ same_class class.Flammable class.Flammable e = refl
 same_class class.Toxic class.Flammable e = absurd (omega arith)
 same_class class.Flammable class.Toxic e = absurd (omega arith)
 
-distance_is : (card : List ℕ) (last : ℕ) {a : Answer} → answer_of card last ≡ answered.Is a → distance_of card ≡ a.distance.0
+distance_is : (card : List ℕ) (last : ℕ) {a : Answer} → answer_of card last ≡ Ok a → distance_of card ≡ a.distance.0
 unfolding distance_of
 distance_is card last e = ap distance_in (answer_first card last e)
 
-number_is : (card : List ℕ) (last : ℕ) {a : Answer} → answer_of card last ≡ answered.Is a → four_at card 20 ≡ a.number
+number_is : (card : List ℕ) (last : ℕ) {a : Answer} → answer_of card last ≡ Ok a → four_at card 20 ≡ a.number
 unfolding fields_of
 number_is card last e = sym (answer_number card last e)
 
 -- ---- the first k cards of an accepted register
 
-module _ (c : Class) (bytes : List ℕ) (k : ℕ) {l : Leaders} (e : outcome_of bytes enough ≡ outcome.Accepted l) where
+module _ (c : Class) (bytes : List ℕ) (k : ℕ) {l : Leaders} (e : outcome_of bytes enough ≡ Ok l) where
   abbrev First : List Answer
   First = take k (found bytes enough e).list
 
@@ -73,7 +70,7 @@ module _ (c : Class) (bytes : List ℕ) (k : ℕ) {l : Leaders} (e : outcome_of 
   record Card (i : ℕ) (a : Answer) : Type 0 where
     among : Among c bytes k i
     last : ℕ
-    answer : answer_of (card_at bytes i) last ≡ answered.Is a
+    answer : answer_of (card_at bytes i) last ≡ Ok a
 
   to_place : (i : ℕ) (a : Answer) → At First i a → a.class ≡ c → Card i a
   to_place i a w same =
@@ -102,7 +99,7 @@ module _ (c : Class) (bytes : List ℕ) (k : ℕ) {l : Leaders} (e : outcome_of 
         far = distance_is (card_at bytes i) x.2 x.3;
       }
 
-  first_leader : (n : ℕ) (d : Miles) → farthest_of c First ≡ farthest.Card n d → Leader c bytes k n d
+  first_leader : (n : ℕ) (d : Miles) → farthest_of c First ≡ Some (leader n d) → Leader c bytes k n d
   first_leader n d q =
       let f = leads c First n d q in
       let p = to_place f.0 f.1 f.2.stands f.2.of_class in
@@ -130,52 +127,52 @@ module _ (c : Class) (bytes : List ℕ) (k : ℕ) {l : Leaders} (e : outcome_of 
 -- ---- the call
 
 -- of an accepted register the definition takes the leaders of the first k answers
-behind_good : (bytes : List ℕ) (k : ℕ) (h : Header) {l : Leaders} (f : Found bytes l) → header_of bytes enough ≡ h → after_header h bytes ≡ outcome.Accepted l
-    → result_behind k h bytes ≡ outcome.Accepted (leaders_of (take k f.list))
+behind_good : (bytes : List ℕ) (k : ℕ) (h : Result ℕ Refusal) {l : Leaders} (f : Found bytes l) → header_of bytes enough ≡ h → after_header h bytes ≡ Ok l
+    → result_behind k h bytes ≡ Ok (leaders_of (take k f.list))
 unfolding cards_of
-behind_good bytes k (header.Good n) f p e =
+behind_good bytes k (Ok n) f p e =
     ap (λ m. result_after k (cards_from m 0 0 (drop 7 bytes))) (sym (header_count bytes enough n p)) ∙ ap (result_after k) f.cards
-behind_good bytes k (header.Refused r) f p e = clash (cc)
+behind_good bytes k (Err r) f p e = clash (cc)
 
-pub accepted_first : (bytes : List ℕ) (k : ℕ) {l : Leaders} (e : outcome_of bytes enough ≡ outcome.Accepted l) → prefix_of bytes k ≡ outcome.Accepted (leaders_of (take k (found bytes enough e).list))
+pub accepted_first : (bytes : List ℕ) (k : ℕ) {l : Leaders} (e : outcome_of bytes enough ≡ Ok l) → prefix_of bytes k ≡ Ok (leaders_of (take k (found bytes enough e).list))
 unfolding prefix_of outcome_of
 accepted_first bytes k e = behind_good bytes k (header_of bytes enough) (found bytes enough e) refl e
 
 -- one that is sent back gives its refusal
-cards_refused : (k : ℕ) (c : Cards) (r : Refusal) (place : ℕ) → result_of c ≡ outcome.Refused r place → result_after k c ≡ outcome.Refused r place
+cards_refused : (k : ℕ) (c : Cards) (r : Refusal) (place : ℕ) → result_of c ≡ Err (refused_at r place) → result_after k c ≡ Err (refused_at r place)
 cards_refused k (answers xs) r place e = clash (cc)
 cards_refused k (sent_back s p) r place e = e
 
-pub refused_first : (bytes : List ℕ) (k : ℕ) (r : Refusal) (place : ℕ) → outcome_of bytes enough ≡ outcome.Refused r place → prefix_of bytes k ≡ outcome.Refused r place
+pub refused_first : (bytes : List ℕ) (k : ℕ) (r : Refusal) (place : ℕ) → outcome_of bytes enough ≡ Err (refused_at r place) → prefix_of bytes k ≡ Err (refused_at r place)
 unfolding prefix_of outcome_of
 refused_first bytes k r place = go (header_of bytes enough)
   where
-    go : (h : Header) → after_header h bytes ≡ outcome.Refused r place → result_behind k h bytes ≡ outcome.Refused r place
-    go (header.Good n) e = cards_refused k (cards_of n bytes) r place e
-    go (header.Refused s) e = e
+    go : (h : Result ℕ Refusal) → after_header h bytes ≡ Err (refused_at r place) → result_behind k h bytes ≡ Err (refused_at r place)
+    go (Ok n) e = cards_refused k (cards_of n bytes) r place e
+    go (Err s) e = e
 
 -- the definition keeps the paper's words
 pub keeps : (bytes : List ℕ) (k : ℕ) → Keeps bytes k (prefix_of bytes k)
 keeps bytes k = go (outcome_of bytes enough) refl
   where
-    go : (x : Outcome) → outcome_of bytes enough ≡ x → Keeps bytes k (prefix_of bytes k)
-    go (outcome.Accepted l) e =
+    go : (x : Result Leaders (SentBack ℕ)) → outcome_of bytes enough ≡ x → Keeps bytes k (prefix_of bytes k)
+    go (Ok l) e =
         subst (Keeps bytes k) (sym (accepted_first bytes k e))
         ((l, e), λ c. subst (FarthestOfFirst c bytes k) (in_result c (take k (found bytes enough e).list) refl) (first_farthest c bytes k e))
-    go (outcome.Refused r place) e = subst (Keeps bytes k) (sym (refused_first bytes k r place e)) e
+    go (Err sent) e = subst (Keeps bytes k) (sym (refused_first bytes k sent.refusal sent.place e)) e
 
 -- ---- the two ends
 
 -- beyond the count the leaders are those of the whole register
 pub all_cards : (n k place last : ℕ) (bytes : List ℕ) (c : Cards) → cards_from n place last bytes ≡ c → n ≤ k → result_after k c ≡ result_of c
 all_cards n k place last bytes (answers xs) e h =
-    ap (λ (ys : List Answer). outcome.Accepted (leaders_of ys)) (take_all k xs (omega (arith, cards_count n place last bytes xs e)))
+    ap (λ (ys : List Answer). Ok (leaders_of ys)) (take_all k xs (omega (arith, cards_count n place last bytes xs e)))
 all_cards n k place last bytes (sent_back r p) e h = refl
 
 pub beyond_count : (bytes : List ℕ) (k : ℕ) → count_of bytes ≤ k → prefix_of bytes k ≡ outcome_of bytes enough
 unfolding prefix_of outcome_of cards_of
 beyond_count bytes k h = go (header_of bytes enough) refl
   where
-    go : (x : Header) → header_of bytes enough ≡ x → result_behind k x bytes ≡ after_header x bytes
-    go (header.Good n) e = all_cards n k 0 0 (drop 7 bytes) (cards_of n bytes) refl (subst (λ m. m ≤ k) (header_count bytes enough n e) h)
-    go (header.Refused r) e = refl
+    go : (x : Result ℕ Refusal) → header_of bytes enough ≡ x → result_behind k x bytes ≡ after_header x bytes
+    go (Ok n) e = all_cards n k 0 0 (drop 7 bytes) (cards_of n bytes) refl (subst (λ m. m ≤ k) (header_count bytes enough n e) h)
+    go (Err r) e = refl

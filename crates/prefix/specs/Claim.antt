@@ -1,28 +1,28 @@
 -- Document 02, A4, in the paper's words: what the call that tells the leaders after the first k cards says of the bytes handed in.
 -- The call's contract cites it.
 -- Assumes nothing.
-use Rattle.std.specs.Prelude.{ℕ, ◌<◌, ◌≡◌, List, ◌↔◌}
+use Rattle.std.specs.Prelude.{ℕ, ◌<◌, ◌≡◌, List, ◌↔◌, Option, Some, None, Result, Ok, Err}
+use Rattle.card.specs.declared.Answer.{Answer}
+use Rattle.farthest.specs.declared.Leader.{Leader}
+use Rattle.refusals.specs.declared.Refusal.{Refusal}
+use Rattle.refusals.specs.declared.SentBack.{SentBack}
+use Rattle.farthest.specs.Farthest.{leader}
+use Rattle.refusals.specs.Numbers.{refused_at}
 use Rattle.buffer.specs.Numbers.{byte_at, four_at}
 use Rattle.units.specs.declared.Miles.{Miles}
 use Rattle.card.specs.declared.Class.{Class}
-use Rattle.card.specs.declared.Answered.{Answered}
-use Rattle.card.specs.declared.Answered.TheVariants as answered
 use Rattle.card.specs.Answers.{answer_of}
 use Rattle.ordering.specs.Order.{kind_of}
-use Rattle.farthest.specs.declared.Farthest.{Farthest}
-use Rattle.farthest.specs.declared.Farthest.TheVariants as farthest
 use Rattle.farthest.specs.declared.Leaders.{Leaders}
 use Rattle.farthest.specs.Farthest.{Reaches}
 use Rattle.header.specs.Header.{enough, count_of}
-use Rattle.walk.specs.declared.Outcome.{Outcome}
-use Rattle.walk.specs.declared.Outcome.TheVariants as outcome
 use Rattle.cards.specs.Register.{outcome_of}
 use Rattle.ordering.specs.Claim.{card_at, farthest_in}
 
 -- the distance that demand 2 gives a card, in hundredths of a mile; 0 where it has none
-abbrev pub distance_in : Answered → ℕ
-distance_in (answered.Is a) = a.distance.0
-distance_in (answered.Refused r) = 0
+abbrev pub distance_in : Result Answer Refusal → ℕ
+distance_in (Ok a) = a.distance.0
+distance_in (Err r) = 0
 
 unfoldable pub distance_of : List ℕ → ℕ
 distance_of card = distance_in (answer_of card 0)
@@ -42,19 +42,19 @@ pub record Leader (c : Class) (register : List ℕ) (k n : ℕ) (d : Miles) : Ty
   pub earlier : (j : ℕ) → j < place → Among c register k j → distance_of (card_at register j) < d.0
 
 -- "In each class the card with the largest distance, the earlier on a tie; none if the class has no card", of the first k cards
-pub record FarthestOfFirst (c : Class) (register : List ℕ) (k : ℕ) (f : Farthest) : Type 0 where
+pub record FarthestOfFirst (c : Class) (register : List ℕ) (k : ℕ) (f : Option Leader) : Type 0 where
   -- none exactly when none of the k is of the class
-  pub none : (f ≡ farthest.None) ↔ ((i : ℕ) → Among c register k i → ⊥)
+  pub none : (f ≡ None) ↔ ((i : ℕ) → Among c register k i → ⊥)
   -- no card of the class among the k is farther
   pub largest : (i : ℕ) → Among c register k i → Reaches f (distance_of (card_at register i))
   -- and it is one of them, the earliest that is so far
-  pub leader : (n : ℕ) (d : Miles) → f ≡ farthest.Card n d → Leader c register k n d
+  pub leader : (n : ℕ) (d : Miles) → f ≡ Some (leader n d) → Leader c register k n d
 
 -- "after the first k cards of an accepted register, for every k, they are 01's farthest of those k, or none": k counts no more than the
 -- register's cards (`there`), so that beyond the count it is the farthest of them all. A register that is sent back gives its own
 -- refusal with its own place.
-abbrev pub Keeps : List ℕ → ℕ → Outcome → Type 0
-Keeps register k (outcome.Accepted l) =
-    ((m : Leaders) × (outcome_of register enough ≡ outcome.Accepted m))
+abbrev pub Keeps : List ℕ → ℕ → Result Leaders (SentBack ℕ) → Type 0
+Keeps register k (Ok l) =
+    ((m : Leaders) × (outcome_of register enough ≡ Ok m))
     × ((c : Class) → FarthestOfFirst c register k (farthest_in c l))
-Keeps register k (outcome.Refused r place) = outcome_of register enough ≡ outcome.Refused r place
+Keeps register k (Err sent) = outcome_of register enough ≡ Err sent

@@ -1,12 +1,10 @@
 -- A register's cards cut behind the first of them: what the first come to and what the others come to is what they all come to.
 -- Assumes nothing.
-use Rattle.std.specs.Prelude.{ℕ, zero, suc, ◌+◌, ◌*◌, ◌≡◌, refl, List, [], ◌∷◌, ◌++◌, take, drop}
+use Rattle.std.specs.Prelude.{ℕ, zero, suc, ◌+◌, ◌*◌, ◌≡◌, refl, List, [], ◌∷◌, ◌++◌, take, drop, Result, Ok, Err}
 use Rattle.std.proofs.Common.{arith, ◌∙◌, ap, drop-drop}
 use Rattle.search.specs.Laws.{clash}
 use Rattle.refusals.specs.declared.Refusal.{Refusal}
 use Rattle.card.specs.declared.Answer.{Answer}
-use Rattle.card.specs.declared.Answered.{Answered}
-use Rattle.card.specs.declared.Answered.TheVariants as answered
 use Rattle.card.specs.Answers.{answer_of}
 use Rattle.running.specs.declared.Running.{Running}
 use Rattle.running.specs.Running.{after_card, running_after}
@@ -39,18 +37,18 @@ cut_answered (suc m) n s bytes xs e =
     others : List Answer → List ℕ → Cards
     others ys rest = cards_from n (running_after s ys).place (running_after s ys).last rest
 
-    go : (x : Answered)
+    go : (x : Result Answer Refusal)
         → ((a : Answer) (ys : List Answer) → cards_from m (suc s.place) a.number (drop 24 bytes) ≡ answers ys
         → cards_from (m + n) (suc s.place) a.number (drop 24 bytes) ≡ in_front ys (others (a ∷ ys) (drop (24 * m) (drop 24 bytes))))
         → then x s.place (λ k. cards_from m (suc s.place) k (drop 24 bytes)) ≡ answers xs
         → then x s.place (λ k. cards_from (m + n) (suc s.place) k (drop 24 bytes)) ≡ in_front xs (others xs (drop (24 * suc m) bytes))
-    go (answered.Is a) ih q =
+    go (Ok a) ih q =
         let j = joined_is a (cards_from m (suc s.place) a.number (drop 24 bytes)) q in
         let z : 24 + 24 * m ≡ 24 * suc m = omega arith in
         ap (joined a) (ih a j.0 j.1)
         ∙ (ap (λ (rest : List ℕ). in_front (a ∷ j.0) (others (a ∷ j.0) rest)) (drop-drop (24 * m) 24 bytes ∙ ap (λ k. drop k bytes) z)
         ∙ ap (λ (ys : List Answer). in_front ys (others ys (drop (24 * suc m) bytes))) j.2)
-    go (answered.Refused r) ih q = clash (cc)
+    go (Err r) ih q = clash (cc)
 
 -- one of the first cards is sent back: so are they all
 pub cut_sent_back : (m n place last : ℕ) (bytes : List ℕ) (r : Refusal) (p : ℕ) → cards_from m place last bytes ≡ sent_back r p → cards_from (m + n) place last bytes ≡ sent_back r p
@@ -64,10 +62,10 @@ cut_sent_back (suc m) n place last bytes r p e =
     behind a (answers ys) d ih q = clash (cc)
     behind a (sent_back s k) d ih q = ap (joined a) (ih q)
 
-    go : (x : Answered)
+    go : (x : Result Answer Refusal)
         → ((a : Answer) → cards_from m (suc place) a.number (drop 24 bytes) ≡ sent_back r p → cards_from (m + n) (suc place) a.number (drop 24 bytes) ≡ sent_back r p)
         → then x place (λ k. cards_from m (suc place) k (drop 24 bytes)) ≡ sent_back r p
         → then x place (λ k. cards_from (m + n) (suc place) k (drop 24 bytes)) ≡ sent_back r p
-    go (answered.Is a) ih q =
+    go (Ok a) ih q =
         behind a (cards_from m (suc place) a.number (drop 24 bytes)) (cards_from (m + n) (suc place) a.number (drop 24 bytes)) (ih a) q
-    go (answered.Refused s) ih q = q
+    go (Err s) ih q = q

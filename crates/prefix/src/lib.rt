@@ -6,40 +6,28 @@ ghost use Rattle.cards.specs.Register.{cards_from};
 ghost use Rattle.prefix.specs.Prefix.{result_after, prefix_of};
 ghost use Rattle.prefix.specs.Claim.{Keeps};
 
-use header::Header;
-use walk::{Outcome, Walked, Writes};
+use farthest::Leaders;
+use refusals::SentBack;
+use walk::Writes;
 
 // The running values of the one walk, where it has passed the first cards. It then goes on through the others, since a register is
 // accepted as a whole or not at all.
-fn leaders_at(cards: &[u8], first: usize, count: usize) -> Outcome
+fn leaders_at(cards: &[u8], first: usize, count: usize) -> Result<Leaders, SentBack<u32>>
     requires { (first ≤ count) × (count ≤ 2000) × (24 * count ≤ length cards.now) }
     ensures { result ≡ result_after first (cards_from count 0 0 cards.now) }
 {
     let mut nowhere = [0u8; 1];
-    let reached = walk::through(cards, first, Writes::Nothing, &mut nowhere);
-    let Walked::On(running, _) = reached else {
-        return walk::outcome_of(reached);
-    };
-    let ended = walk::along(cards, running, count, Writes::Nothing, &mut nowhere);
-    let Walked::On(_, _) = ended else {
-        return walk::outcome_of(ended);
-    };
-    let leaders = running.leaders;
-    Outcome::Accepted(leaders)
+    let (running, _) = walk::through(cards, first, Writes::Nothing, &mut nowhere)?;
+    walk::along(cards, running, count, Writes::Nothing, &mut nowhere)?;
+    Ok(running.leaders)
 }
 
 // The farthest card of each class among the first k cards of a register, or the refusal of the register, whichever card it is for.
 // Beyond the count the first k cards are all there are.
-pub fn leaders_after(register: &[u8], k: usize) -> Outcome
+pub fn leaders_after(register: &[u8], k: usize) -> Result<Leaders, SentBack<u32>>
     ensures value { result ≡ prefix_of register.now k }
     ensures keeps { Keeps register.now k result }
 {
-    let header = header::header_of(register, header::ENOUGH);
-    let Header::Good(count) = header else {
-        return Outcome::Refused(header::header_refusal(header), 0);
-    };
-    if k < count {
-        return leaders_at(&register[7..], k, count);
-    }
-    leaders_at(&register[7..], count, count)
+    let count = header::header_of(register, header::ENOUGH)?;
+    leaders_at(&register[7..], k.min(count), count)
 }

@@ -1,33 +1,30 @@
 -- The answer buffer, byte by byte, and what does not depend on it.
 -- Assumes nothing.
-use Rattle.std.specs.Prelude.{ℕ, zero, suc, ◌+◌, ◌-◌, ◌*◌, ◌≤◌, ◌<◌, ◌≡◌, refl, List, [], ◌∷◌, ◌++◌, length, get_or, drop}
+use Rattle.std.specs.Prelude.{ℕ, zero, suc, ◌+◌, ◌-◌, ◌*◌, ◌≤◌, ◌<◌, ◌≡◌, refl, List, [], ◌∷◌, ◌++◌, length, get_or, drop, Result, Ok, Err}
+use Rattle.refusals.specs.Numbers.{refused_at}
 use Rattle.std.proofs.Common.{arith, ◌∙◌, sym, ap, append_assoc, get_or-append-add, get_or-drop}
 use Rattle.std.proofs.Math.ListN.{get_or-append}
 use Rattle.search.specs.Laws.{clash}
 use Rattle.refusals.specs.declared.Refusal.{Refusal}
 use Rattle.card.specs.declared.Answer.{Answer}
-use Rattle.card.specs.declared.Answered.TheVariants as answered
 use Rattle.card.specs.Answers.{answer_of}
 use Rattle.farthest.specs.declared.Leaders.{Leaders}
 use Rattle.farthest.specs.Farthest.{At}
 use Rattle.encode.specs.Bytes.{answer_bytes}
 use Rattle.encode.specs.Laws.{length_answer}
-use Rattle.header.specs.declared.Header.{Header}
-use Rattle.header.specs.declared.Header.TheVariants as header
 use Rattle.header.specs.Header.{header_of, count_of}
-use Rattle.walk.specs.declared.Outcome.TheVariants as outcome
 use Rattle.cards.specs.Register.{Cards, answers, sent_back, cards_from, cards_of, result_of, after_header, outcome_of, bytes_of, filled_with, filled_after, buffer_of}
 use Rattle.cards.proofs.Laws.{cards_count, bytes_length}
 use Rattle.ordering.specs.Claim.{card_at, Accepts}
 use Rattle.ordering.specs.Found.{Found}
 use Rattle.ordering.proofs.Found.{found, header_count, any_room, to_card}
 
-good_filled : (bytes out : List ℕ) (h : Header) {l : Leaders} (f : Found bytes l) → header_of bytes (length out) ≡ h → after_header h bytes ≡ outcome.Accepted l → filled_after h bytes out ≡ bytes_of f.list ++ drop (length (bytes_of f.list)) out
+good_filled : (bytes out : List ℕ) (h : Result ℕ Refusal) {l : Leaders} (f : Found bytes l) → header_of bytes (length out) ≡ h → after_header h bytes ≡ Ok l → filled_after h bytes out ≡ bytes_of f.list ++ drop (length (bytes_of f.list)) out
 unfolding cards_of
-good_filled bytes out (header.Good n) f p e =
+good_filled bytes out (Ok n) f p e =
     ap (λ y. filled_with (cards_from y 0 0 (drop 7 bytes)) out) (sym (header_count bytes (length out) n p))
     ∙ ap (λ y. filled_with y out) f.cards
-good_filled bytes out (header.Refused r) f p e = let z : ◌≡◌ {A = ℕ} 0 1 = cc in clash z
+good_filled bytes out (Err r) f p e = let z : ◌≡◌ {A = ℕ} 0 1 = cc in clash z
 
 buffer_is : (bytes out : List ℕ) {l : Leaders} (e : Accepts bytes out l) → buffer_of bytes out ≡ bytes_of (found bytes (length out) e).list ++ drop (length (bytes_of (found bytes (length out) e).list)) out
 unfolding buffer_of outcome_of
@@ -52,7 +49,7 @@ bytes_at (x ∷ xs) rest (suc i) j a h k =
 
 -- What stands at the sixteen bytes 16 i + j of an accepted call's buffer: byte j of the answer of the card at place i.
 pub buffer_answer : (bytes out : List ℕ) (l : Leaders) → Accepts bytes out l → (i : ℕ) → i < count_of bytes
-    → (a : Answer) × (last : ℕ) × (answer_of (card_at bytes i) last ≡ answered.Is a) × ((j : ℕ) → j < 16 → get_or (buffer_of bytes out) (16 * i + j) 0 ≡ get_or (answer_bytes a) j 0)
+    → (a : Answer) × (last : ℕ) × (answer_of (card_at bytes i) last ≡ Ok a) × ((j : ℕ) → j < 16 → get_or (buffer_of bytes out) (16 * i + j) 0 ≡ get_or (answer_bytes a) j 0)
 buffer_answer bytes out l e i h =
     let t = to_card bytes (length out) e i h in
     let f = found bytes (length out) e in
@@ -60,7 +57,7 @@ buffer_answer bytes out l e i h =
 
 -- one of them
 pub buffer_at : (bytes out : List ℕ) (l : Leaders) → Accepts bytes out l → (i j : ℕ) → i < count_of bytes → j < 16
-    → (a : Answer) × (last : ℕ) × (answer_of (card_at bytes i) last ≡ answered.Is a) × (get_or (buffer_of bytes out) (16 * i + j) 0 ≡ get_or (answer_bytes a) j 0)
+    → (a : Answer) × (last : ℕ) × (answer_of (card_at bytes i) last ≡ Ok a) × (get_or (buffer_of bytes out) (16 * i + j) 0 ≡ get_or (answer_bytes a) j 0)
 buffer_at bytes out l e i j h k =
     let t = buffer_answer bytes out l e i h in (t.0, t.1, t.2, t.3 j k)
 
@@ -76,15 +73,15 @@ buffer_beyond bytes out l e k h =
     ∙ (get_or-drop (length (bytes_of f.list)) out (k - length (bytes_of f.list)) 0 ∙ ap (λ m. get_or out m 0) (sym z))))
 
 -- A refused call changes no byte.
-kept_cards : (c : Cards) (out : List ℕ) {r : Refusal} {place : ℕ} → result_of c ≡ outcome.Refused r place → filled_with c out ≡ out
+kept_cards : (c : Cards) (out : List ℕ) {r : Refusal} {place : ℕ} → result_of c ≡ Err (refused_at r place) → filled_with c out ≡ out
 kept_cards (answers xs) out e = let z : ◌≡◌ {A = ℕ} 0 1 = cc in clash z
 kept_cards (sent_back r place) out e = refl
 
-kept_header : (h : Header) (bytes out : List ℕ) {r : Refusal} {place : ℕ} → after_header h bytes ≡ outcome.Refused r place → filled_after h bytes out ≡ out
-kept_header (header.Good n) bytes out e = kept_cards (cards_of n bytes) out e
-kept_header (header.Refused r) bytes out e = refl
+kept_header : (h : Result ℕ Refusal) (bytes out : List ℕ) {r : Refusal} {place : ℕ} → after_header h bytes ≡ Err (refused_at r place) → filled_after h bytes out ≡ out
+kept_header (Ok n) bytes out e = kept_cards (cards_of n bytes) out e
+kept_header (Err r) bytes out e = refl
 
-pub buffer_kept : (bytes out : List ℕ) (r : Refusal) (place : ℕ) → outcome_of bytes (length out) ≡ outcome.Refused r place → buffer_of bytes out ≡ out
+pub buffer_kept : (bytes out : List ℕ) (r : Refusal) (place : ℕ) → outcome_of bytes (length out) ≡ Err (refused_at r place) → buffer_of bytes out ≡ out
 unfolding outcome_of buffer_of
 buffer_kept bytes out r place e = kept_header (header_of bytes (length out)) bytes out e
 

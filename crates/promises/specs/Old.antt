@@ -1,25 +1,22 @@
 -- Answers that are told as old (document 02, A7): none of an accepted register is, in whatever buffer. So a record that keeps answers from
 -- before and from now can tell them apart.
 -- Assumes nothing.
-use Rattle.std.specs.Prelude.{ℕ, ◌*◌, ◌≤◌, ◌<◌, ◌≡◌, false, List, get_or, take, drop}
+use Rattle.std.specs.Prelude.{ℕ, ◌*◌, ◌≤◌, ◌<◌, ◌≡◌, false, List, get_or, take, drop, Option, Some, None, Result, Ok, Err}
+use Rattle.refusals.specs.declared.Refusal.{Refusal}
+use Rattle.units.specs.declared.Miles.{Miles}
 use Rattle.std.proofs.Common.{arith, ◌∙◌, sym, ap, ⊎_elim, get_or-take, get_or-drop, ne_eqb}
 use Rattle.search.specs.Laws.{clash, lt_or_ge}
-use Rattle.units.specs.declared.Reading.{Reading}
-use Rattle.units.specs.declared.Reading.TheVariants as reading
 use Rattle.dispersion.specs.declared.Ground.{Ground}
 use Rattle.dispersion.specs.Tables.{reading_of}
 use Rattle.dispersion.proofs.Laws.{reading_none}
 use Rattle.scenario.specs.declared.ToxicCard.{ToxicCard}
 use Rattle.scenario.specs.declared.Scenario.{Scenario}
-use Rattle.scenario.specs.declared.Planned.{Planned}
-use Rattle.scenario.specs.declared.Planned.TheVariants as planned
 use Rattle.scenario.specs.Plan.{plan_of}
 use Rattle.fields.specs.Layout.{fields_of}
 use Rattle.meaning.specs.declared.Meaning.{Meaning}
 use Rattle.meaning.specs.declared.Meaning.TheVariants as meaning
 use Rattle.meaning.specs.Reading.{meaning_of}
 use Rattle.card.specs.declared.Answer.{Answer}
-use Rattle.card.specs.declared.Answered.TheVariants as answered
 use Rattle.card.specs.Answers.{read_toxic, planned_answer, answer_for, answer_of}
 use Rattle.buffer.specs.Numbers.{two_bytes, four_bytes}
 use Rattle.encode.specs.Bytes.{answer_bytes, is_old}
@@ -31,30 +28,30 @@ use Rattle.ordering.specs.Claim.{Accepts}
 use Rattle.promises.specs.Buffer.{buffer_at}
 
 -- a table that answers is one of the first twelve
-read_table : (g : Ground) (n : ℕ) (s : Scenario) {a : Answer} → read_toxic (reading_of s.table g s.rate.0 s.endpoint) n s ≡ answered.Is a → a.table ≤ 12
+read_table : (g : Ground) (n : ℕ) (s : Scenario) {a : Answer} → read_toxic (reading_of s.table g s.rate.0 s.endpoint) n s ≡ Ok a → a.table ≤ 12
 read_table g n s {a} e = ⊎_elim above (λ k. k) (lt_or_ge 12 a.table)
   where
-    told : (x : Reading) → read_toxic x n s ≡ answered.Is a → s.table ≡ a.table
-    told (reading.Distance d) q = ap table_in q
-    told reading.Beyond q = clash (cc)
+    told : (x : Option Miles) → read_toxic x n s ≡ Ok a → s.table ≡ a.table
+    told (Some d) q = ap table_in q
+    told None q = clash (cc)
 
     above : 12 < a.table → a.table ≤ 12
     above h =
         let same = told (reading_of s.table g s.rate.0 s.endpoint) e in
         let left = reading_none s.table g s.rate.0 s.endpoint (omega arith) in
-        let sent : read_toxic reading.Beyond n s ≡ answered.Is a = ap (λ x. read_toxic x n s) (sym left) ∙ e in
+        let sent : read_toxic None n s ≡ Ok a = ap (λ x. read_toxic x n s) (sym left) ∙ e in
         clash (cc)
 
-plan_table : (p : Planned) (n : ℕ) (card : ToxicCard) {a : Answer} → planned_answer p n card ≡ answered.Is a → a.table ≤ 12
-plan_table (planned.Planned s) n card e = read_table card.topography n s e
-plan_table planned.Mismatch n card e = clash (cc)
+plan_table : (p : Option Scenario) (n : ℕ) (card : ToxicCard) {a : Answer} → planned_answer p n card ≡ Ok a → a.table ≤ 12
+plan_table (Some s) n card e = read_table card.topography n s e
+plan_table None n card e = clash (cc)
 
-meaning_table : (m : Meaning) (n : ℕ) {a : Answer} → answer_for m n ≡ answered.Is a → a.table ≤ 12
-meaning_table (meaning.Toxic card) n e = plan_table (plan_of card) n card e
-meaning_table (meaning.Flammable card) n e = let z = ap table_in e in omega arith
-meaning_table (meaning.Refused r) n e = clash (cc)
+meaning_table : (m : Result Meaning Refusal) (n : ℕ) {a : Answer} → answer_for m n ≡ Ok a → a.table ≤ 12
+meaning_table (Ok (meaning.Toxic card)) n e = plan_table (plan_of card) n card e
+meaning_table (Ok (meaning.Flammable card)) n e = let z = ap table_in e in omega arith
+meaning_table (Err r) n e = clash (cc)
 
-answer_table : (card : List ℕ) (last : ℕ) {a : Answer} → answer_of card last ≡ answered.Is a → a.table ≤ 12
+answer_table : (card : List ℕ) (last : ℕ) {a : Answer} → answer_of card last ≡ Ok a → a.table ≤ 12
 unfolding answer_of
 answer_table card last e = meaning_table (meaning_of (fields_of card) last) (fields_of card).number e
 

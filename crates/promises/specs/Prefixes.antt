@@ -1,11 +1,12 @@
 -- The leaders after the first k cards, by examples: registers of document 01's cards, with the leaders as they go, and the one theorem
 -- that each is told as its row states. The general statement is `Keeps` in `prefix/specs/Claim.antt`.
 -- Assumes nothing.
-use Rattle.std.specs.Prelude.{ℕ, ◌≡◌, refl, List, [], ◌∷◌, map}
+use Rattle.std.specs.Prelude.{ℕ, ◌≡◌, refl, List, [], ◌∷◌, map, Option, Result, Ok, Err}
+use Rattle.farthest.specs.declared.Leader.{Leader}
+use Rattle.farthest.specs.declared.Leaders.{Leaders}
+use Rattle.refusals.specs.declared.SentBack.{SentBack}
+use Rattle.refusals.specs.Numbers.{refused_at}
 use Rattle.refusals.specs.declared.Refusal.TheVariants as refusal
-use Rattle.farthest.specs.declared.Farthest.{Farthest}
-use Rattle.walk.specs.declared.Outcome.{Outcome}
-use Rattle.walk.specs.declared.Outcome.TheVariants as outcome
 use Rattle.prefix.specs.Prefix.{prefix_of}
 use Rattle.promises.specs.Starred.{register_of, chlorine, bromine, propane, rural, urban, in_open, in_dike, in_building, at, none, computed}
 
@@ -13,10 +14,10 @@ use Rattle.promises.specs.Starred.{register_of, chlorine, bromine, propane, rura
 pub record Told : Type 0 where
   pub cards : List (List ℕ)
   pub after : ℕ
-  pub outcome : Outcome
+  pub outcome : Result Leaders (SentBack ℕ)
 
-abbrev pub leaders : List (List ℕ) → ℕ → Farthest → Farthest → Told
-leaders cards k t f = record { cards = cards; after = k; outcome = outcome.Accepted (record { toxic = t; flammable = f }) }
+abbrev pub leaders : List (List ℕ) → ℕ → Option Leader → Option Leader → Told
+leaders cards k t f = record { cards = cards; after = k; outcome = Ok (record { toxic = t; flammable = f }) }
 
 -- "Cards: 11 chlorine .. 2,500 lb; 12 bromine .. dike 100 sq ft, wall 400; 13 propane (74986), 10,000 lb"
 abbrev pub listed : List (List ℕ)
@@ -50,9 +51,9 @@ rows =
     ∷ leaders (bromine in_building 100 0 1 ∷ chlorine rural in_open 0 2_249 2 ∷ []) 1 (at 1 40) none
     ∷ leaders (bromine in_building 100 0 1 ∷ chlorine rural in_open 0 2_249 2 ∷ []) 2 (at 2 300) none
     -- a register that is sent back tells why, also before the card that it is for
-    ∷ record { cards = spoiled; after = 0; outcome = outcome.Refused refusal.Quantity 1 }
-    ∷ record { cards = spoiled; after = 1; outcome = outcome.Refused refusal.Quantity 1 }
-    ∷ record { cards = spoiled; after = 2; outcome = outcome.Refused refusal.Quantity 1 }
+    ∷ record { cards = spoiled; after = 0; outcome = Err (refused_at refusal.Quantity 1) }
+    ∷ record { cards = spoiled; after = 1; outcome = Err (refused_at refusal.Quantity 1) }
+    ∷ record { cards = spoiled; after = 2; outcome = Err (refused_at refusal.Quantity 1) }
     ∷ []
 
 pub told : map (λ r. prefix_of (register_of r.cards) r.after) rows ≡ map (λ r. r.outcome) rows

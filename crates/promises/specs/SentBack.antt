@@ -2,10 +2,10 @@
 -- is sent back as its row states: the call gives its number and place, and of the conditions of that place its own is the first
 -- that holds.
 -- Assumes nothing.
-use Rattle.std.specs.Prelude.{ℕ, ◌≡◌, refl, Bool, true, false, List, [], ◌∷◌, ◌++◌, map}
+use Rattle.std.specs.Prelude.{ℕ, ◌≡◌, refl, Bool, true, false, List, [], ◌∷◌, ◌++◌, map, Result, Ok, Err}
+use Rattle.farthest.specs.declared.Leaders.{Leaders}
+use Rattle.refusals.specs.declared.SentBack.{SentBack}
 use Rattle.refusals.specs.Numbers.{number_of}
-use Rattle.walk.specs.declared.Outcome.{Outcome}
-use Rattle.walk.specs.declared.Outcome.TheVariants as outcome
 use Rattle.cards.specs.Register.{outcome_of}
 use Rattle.conditions.specs.Conditions.{Condition, condition, unlisted, filled, bad_toxic, bad_flammable, bad_form, of_gas, of_liquid, of_flammable, of_solution, bad_cas, mismatched, above_last, last_in_use, beyond_table, state_in, ground_in, held_in, beyond, of_register, of_card, only, conditions_at}
 use Rattle.promises.specs.Starred.{card_of, register_of, chlorine, ammonia, bromine, propane, rural, urban, in_open, in_dike, computed}
@@ -88,9 +88,9 @@ examples =
     ∷ []
 
 -- the number and the place of a call that is sent back
-abbrev pub sent_back_as : Outcome → List ℕ
-sent_back_as (outcome.Accepted l) = []
-sent_back_as (outcome.Refused r place) = number_of r ∷ place ∷ []
+abbrev pub sent_back_as : Result Leaders (SentBack ℕ) → List ℕ
+sent_back_as (Ok l) = []
+sent_back_as (Err sent) = number_of sent.refusal ∷ sent.place ∷ []
 
 -- the number in front, where a condition holds
 abbrev pub kept : Bool → ℕ → List ℕ → List ℕ

@@ -1,6 +1,11 @@
 -- Document 01's starred cases as one table of registers, and the one theorem that each comes out as its row states.
 -- Assumes nothing.
-use Rattle.std.specs.Prelude.{ℕ, ◌+◌, ◌*◌, ◌≡◌, refl, List, [], ◌∷◌, ◌++◌, map, length}
+use Rattle.std.specs.Prelude.{ℕ, ◌+◌, ◌*◌, ◌≡◌, refl, List, [], ◌∷◌, ◌++◌, map, length, Option, Some, None, Result, Ok, Err}
+use Rattle.farthest.specs.declared.Leader.{Leader}
+use Rattle.farthest.specs.declared.Leaders.{Leaders}
+use Rattle.refusals.specs.declared.Refusal.{Refusal}
+use Rattle.refusals.specs.declared.SentBack.{SentBack}
+use Rattle.farthest.specs.Farthest.{leader}
 use Rattle.search.specs.Places.{among, look_up}
 use Rattle.exhibits.specs.PrintedB1.{b1}
 use Rattle.exhibits.specs.PrintedB2.{b2}
@@ -32,13 +37,9 @@ use Rattle.card.specs.declared.Class.{Class}
 use Rattle.card.specs.declared.Class.TheVariants as class
 use Rattle.card.specs.declared.Answer.{Answer}
 use Rattle.card.specs.Answers.{answer_of}
-use Rattle.farthest.specs.declared.Farthest.{Farthest}
-use Rattle.farthest.specs.declared.Farthest.TheVariants as farthest
 use Rattle.farthest.specs.Farthest.{leaders_after, leaders_from, leaders_of}
 use Rattle.buffer.specs.Numbers.{two_bytes, four_bytes}
 use Rattle.header.specs.Header.{answer_size, bad_buffer, bad_count, bad_length, bad_version, card_size, header_of, header_size}
-use Rattle.walk.specs.declared.Outcome.{Outcome}
-use Rattle.walk.specs.declared.Outcome.TheVariants as outcome
 use Rattle.cards.specs.Register.{Cards, answers, cards_from, cards_of, outcome_of}
 
 -- a card's 24 bytes: kind, state, ground, containment, CAS number, pounds, area, wall, temperature, card number
@@ -72,8 +73,8 @@ pub record Line : Type 0 where
 -- a register: its cards with what is said of each, and both classes' farthest
 pub record Row : Type 0 where
   pub lines : List Line
-  pub toxic : Farthest
-  pub flammable : Farthest
+  pub toxic : Option Leader
+  pub flammable : Option Leader
 
 -- card number, bytes, route, table, pool area, rate in thousandths of a pound per minute, distance in hundredths of a mile
 abbrev pub line : Class → ℕ → (ℕ → List ℕ) → ℕ → ℕ → Area → ℕ → ℕ → Line
@@ -98,15 +99,15 @@ toxic = line class.Toxic
 abbrev pub flammable : ℕ → (ℕ → List ℕ) → ℕ → ℕ → Area → ℕ → ℕ → Line
 flammable = line class.Flammable
 
-abbrev pub row : List Line → Farthest → Farthest → Row
+abbrev pub row : List Line → Option Leader → Option Leader → Row
 row lines t f = record { lines = lines; toxic = t; flammable = f }
 
 -- the farthest card's number and its distance in hundredths of a mile
-abbrev pub at : ℕ → ℕ → Farthest
-at number miles = farthest.Card number (record { 0 = miles })
+abbrev pub at : ℕ → ℕ → Option Leader
+at number miles = Some (leader number (record { 0 = miles }))
 
-abbrev pub none : Farthest
-none = farthest.None
+abbrev pub none : Option Leader
+none = None
 
 -- the bytes of ground and containment
 abbrev pub rural : ℕ
@@ -176,7 +177,7 @@ rows =
 
 -- what is said of a register: what its call answers, the answer of each card, the area of each pool
 pub record Said : Type 0 where
-  pub outcome : Outcome
+  pub outcome : Result Leaders (SentBack ℕ)
   pub cards : Cards
   pub pools : List Area
 
@@ -184,16 +185,16 @@ pub record Said : Type 0 where
 abbrev pub stated : Row → Said
 stated r =
     record {
-      outcome = outcome.Accepted (record { toxic = r.toxic; flammable = r.flammable });
+      outcome = Ok (record { toxic = r.toxic; flammable = r.flammable });
       cards = answers (map (λ l. l.answer) r.lines);
       pools = map (λ l. l.pool) r.lines;
     }
 
 -- the pool area that a meaning has
-abbrev pub area_of : Meaning → Area
-area_of (meaning.Toxic card) = given (pool_area card.quantity.0 (df_of card.entry) card.containment)
-area_of (meaning.Flammable card) = not_given
-area_of (meaning.Refused r) = not_given
+abbrev pub area_of : Result Meaning Refusal → Area
+area_of (Ok (meaning.Toxic card)) = given (pool_area card.quantity.0 (df_of card.entry) card.containment)
+area_of (Ok (meaning.Flammable card)) = not_given
+area_of (Err r) = not_given
 
 -- an area is looked at where the paper gives one
 abbrev pub where_given : Area → Area → Area

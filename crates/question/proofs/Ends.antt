@@ -1,5 +1,7 @@
 -- One law for each answer of a stage.
 -- Assumes nothing.
+use Rattle.std.specs.Prelude.{Option, Some, None}
+use Rattle.question.specs.Question.{question}
 use Prim.Native.Nat.{ℕ, suc, ◌+◌, ◌-◌, ◌≤◌, ◌<◌}
 use native.Mathlib.Omega.{arith}
 use mathlib.Core.Path.{◌≡◌, refl, sym, ap, ◌∙◌}
@@ -13,32 +15,25 @@ use Rattle.search.specs.Laws.{clash}
 use Rattle.fields.specs.declared.Fields.{Fields}
 use Rattle.pieces.specs.Pieces.{before, pieces}
 use Rattle.pieces.proofs.Laws.{before_take, before_within, behind, pieces_line}
-use Rattle.numerals.specs.declared.Number.{Number}
-use Rattle.numerals.specs.declared.Number.TheVariants as number
 use Rattle.numerals.specs.Numerals.{value_in}
-use Rattle.comma.specs.declared.Taken.{Taken}
-use Rattle.comma.specs.declared.Taken.TheVariants as taken
-use Rattle.comma.specs.declared.Line.{Line}
-use Rattle.comma.specs.declared.Line.TheVariants as line
 use Rattle.comma.specs.Line.{of_four_bytes, line_of}
 use Rattle.comma.specs.Stages.{placed, end_at, taken_at}
 use Rattle.comma.specs.Text.{lines_of}
 use Rattle.question.specs.declared.Question.{Question}
-use Rattle.question.specs.declared.Question.TheVariants as question
 use Rattle.question.specs.Question.{with_card, with_minutes, with_rate, asked_in, one_line, question_in}
 
 -- ---- where a field that was taken ends
 
-placed_at : (v : Number) (m n at : ℕ) → placed v m ≡ taken.Is n at → at ≡ m
-placed_at (number.Is k) m n at e = cc
-placed_at number.Malformed m n at e = clash (cc)
+placed_at : (v : Option ℕ) (m n at : ℕ) → placed v m ≡ Some (n, at) → at ≡ m
+placed_at (Some k) m n at e = cc
+placed_at None m n at e = clash (cc)
 
-pub taken_within : (text : List ℕ) (at n next : ℕ) (r : Taken) → r ≡ taken_at of_four_bytes text at → r ≡ taken.Is n next → next ≤ length text
+pub taken_within : (text : List ℕ) (at n next : ℕ) (r : Option (ℕ × ℕ)) → r ≡ taken_at of_four_bytes text at → r ≡ Some (n, next) → next ≤ length text
 unfolding taken_at
 taken_within text at n next r e q = go (ltb (end_at text at) (length text)) refl (sym e ∙ q)
   where
     go : (b : Bool) → ltb (end_at text at) (length text) ≡ b
-        → elim b as (λ _. Taken) [ true ↦ placed (value_in of_four_bytes (before 44 (drop at text))) (end_at text at + 1) | false ↦ taken.Malformed ] ≡ taken.Is n next
+        → elim b as (λ _. Option (ℕ × ℕ)) [ true ↦ placed (value_in of_four_bytes (before 44 (drop at text))) (end_at text at + 1) | false ↦ None ] ≡ Some (n, next)
         → next ≤ length text
     go true t h =
         let p : next ≡ end_at text at + 1 = placed_at (value_in of_four_bytes (before 44 (drop at text))) (end_at text at + 1) n next h in
@@ -47,20 +42,20 @@ taken_within text at n next r e q = go (ltb (end_at text at) (length text)) refl
 
 -- ---- the stages of a line
 
-module _ (text : List ℕ) (first : Taken) (e : first ≡ taken_at of_four_bytes text 0) where
-  pub no_rate : first ≡ taken.Malformed → question.Malformed ≡ asked_in text
+module _ (text : List ℕ) (first : Option (ℕ × ℕ)) (e : first ≡ taken_at of_four_bytes text 0) where
+  pub no_rate : first ≡ None → None ≡ asked_in text
   unfolding asked_in
   no_rate q = sym (ap (λ t. with_rate t text) (sym e ∙ q))
 
-  module _ (rate at1 : ℕ) (q : first ≡ taken.Is rate at1) (second : Taken) (f : second ≡ taken_at of_four_bytes text at1) where
+  module _ (rate at1 : ℕ) (q : first ≡ Some (rate, at1)) (second : Option (ℕ × ℕ)) (f : second ≡ taken_at of_four_bytes text at1) where
     here : with_minutes rate second text ≡ asked_in text
     unfolding asked_in
     here = ap (λ t. with_minutes rate t text) f ∙ sym (ap (λ t. with_rate t text) (sym e ∙ q))
 
-    pub no_minutes : second ≡ taken.Malformed → question.Malformed ≡ asked_in text
+    pub no_minutes : second ≡ None → None ≡ asked_in text
     no_minutes p = sym (ap (λ t. with_minutes rate t text) p) ∙ here
 
-    module _ (minutes at2 : ℕ) (p : second ≡ taken.Is minutes at2) (third : Line) (end : ℕ) (l : end ≡ length text)
+    module _ (minutes at2 : ℕ) (p : second ≡ Some (minutes, at2)) (third : Option Fields) (end : ℕ) (l : end ≡ length text)
         (g : third ≡ line_of (take (end - at2) (drop at2 text))) where
       rest : take (end - at2) (drop at2 text) ≡ drop at2 text
       rest = take_all (end - at2) (drop at2 text) (omega (arith, l, length-drop at2 text))
@@ -69,10 +64,10 @@ module _ (text : List ℕ) (first : Taken) (e : first ≡ taken_at of_four_bytes
       there =
           ap (λ x. with_card rate minutes x) (g ∙ ap line_of rest) ∙ sym (ap (λ t. with_minutes rate t text) p) ∙ here
 
-      pub no_card : third ≡ line.Malformed → question.Malformed ≡ asked_in text
+      pub no_card : third ≡ None → None ≡ asked_in text
       no_card h = sym (ap (λ x. with_card rate minutes x) h) ∙ there
 
-      pub asked : (card : Fields) → third ≡ line.Card card → question.Asked rate minutes card ≡ asked_in text
+      pub asked : (card : Fields) → third ≡ Some card → Some (question rate minutes card) ≡ asked_in text
       asked card h = sym (ap (λ x. with_card rate minutes x) h) ∙ there
 
 -- ---- the text
@@ -92,7 +87,7 @@ last_line (x ∷ rest) g =
     let t : List ℕ = x ∷ rest in
     sym (line_of_lem t (omega arith) ∙ ap (λ ls. one_line (before 10 t ∷ lines_of ls)) (drop_of_length-le t {i = suc (length (before 10 t))} g))
 
-other_line : (t : List ℕ) → suc (length (before 10 t)) < length t → question_in t ≡ question.Malformed
+other_line : (t : List ℕ) → suc (length (before 10 t)) < length t → question_in t ≡ None
 unfolding lines_of
 other_line t h =
     line_of_lem t (omega arith)
@@ -103,10 +98,10 @@ pub line_within : (text : List ℕ) (end : ℕ) → end ≡ 0 + length (before 1
 line_within text end e = omega (arith, e, before_within 10 text)
 
 module _ (text : List ℕ) (end : ℕ) (e : end ≡ 0 + length (before 10 (drop 0 text))) where
-  pub two_lines : end + 1 < length text → question.Malformed ≡ question_in text
+  pub two_lines : end + 1 < length text → None ≡ question_in text
   two_lines h = sym (other_line text (omega (arith, e)))
 
-  pub one_line_lem : (r : Question) → length text ≤ end + 1 → r ≡ asked_in (take (end - 0) (drop 0 text)) → r ≡ question_in text
+  pub one_line_lem : (r : Option Question) → length text ≤ end + 1 → r ≡ asked_in (take (end - 0) (drop 0 text)) → r ≡ question_in text
   one_line_lem r h q =
       let size : end - 0 ≡ length (before 10 text) = omega (arith, e) in
       q ∙ ap asked_in (ap (λ n. take n text) size ∙ before_take 10 text) ∙ last_line text (omega (arith, e))

@@ -1,6 +1,6 @@
 -- The ranges of a card's numbers, in the order of their checks: 8, 9, 14, 15 and 16.
 -- Assumes nothing.
-use Rattle.std.specs.Prelude.{ℕ, ◌-◌, ◌≤◌, Bool, true, false, ltb, eqb, ℤ, pos, negsuc}
+use Rattle.std.specs.Prelude.{ℕ, ◌-◌, ◌≤◌, Bool, true, false, ltb, eqb, ℤ, pos, negsuc, Result, Ok, Err}
 use Rattle.std.specs.Int.Signed.{lt_z}
 use Rattle.search.specs.Places.{either}
 use Rattle.exhibits.specs.declared.Toxic.{Toxic}
@@ -10,8 +10,6 @@ use Rattle.scenario.specs.declared.Tenths.TheVariants.{Temperature, Concentratio
 use Rattle.fields.specs.declared.Fields.{Fields}
 use Rattle.refusals.specs.declared.Refusal.{Refusal}
 use Rattle.refusals.specs.declared.Refusal.TheVariants as refusal
-use Rattle.ranges.specs.declared.Bounds.{Bounds}
-use Rattle.ranges.specs.declared.Bounds.TheVariants as bounds
 
 -- 8: "pounds out of range": "8 to 11: pounds, 1 to 10,000,000."
 unfoldable pub bad_pounds : ℕ → Bool
@@ -52,26 +50,26 @@ is_out_of_range OutOfRange = true
 is_out_of_range NotListed = false
 
 -- a check that refuses where its condition holds
-abbrev pub bounds_if : Bool → Refusal → Bounds → Bounds
-bounds_if true r further = bounds.Refused r
+abbrev pub bounds_if : Bool → Refusal → Result Tenths Refusal → Result Tenths Refusal
+bounds_if true r further = Err r
 bounds_if false r further = further
 
 -- 8, then "area, wall and temperature are checked in that order", 16 "at temperature's place in the order", and what bytes 18 and
 -- 19 are
-unfoldable pub bounds_of : Toxic → Fields → Bounds
+unfoldable pub bounds_of : Toxic → Fields → Result Tenths Refusal
 bounds_of entry f =
     bounds_if (bad_pounds f.pounds) refusal.Quantity
     (bounds_if (bad_area f.containment f.area) refusal.Area
     (bounds_if (bad_wall f.wall) refusal.Wall
     (bounds_if (bad_tenths (tenths_of f)) refusal.Temperature
-    (bounds_if (is_out_of_range entry) refusal.Concentration (bounds.Within (tenths_of f))))))
+    (bounds_if (is_out_of_range entry) refusal.Concentration (Ok (tenths_of f))))))
 
 -- the refusal that the ranges give; the last of them where they give none
-abbrev pub bounds_refusal : Bounds → Refusal
-bounds_refusal (bounds.Within t) = refusal.Concentration
-bounds_refusal (bounds.Refused r) = r
+abbrev pub bounds_refusal : Result Tenths Refusal → Refusal
+bounds_refusal (Ok t) = refusal.Concentration
+bounds_refusal (Err r) = r
 
 -- what numbers in range keep of document 01's limits
-abbrev pub BoundsLimits : Fields → Bounds → Type 0
-BoundsLimits f (bounds.Within t) = f.pounds ≤ 10_000_000
-BoundsLimits f (bounds.Refused r) = Unit {0}
+abbrev pub BoundsLimits : Fields → Result Tenths Refusal → Type 0
+BoundsLimits f (Ok t) = f.pounds ≤ 10_000_000
+BoundsLimits f (Err r) = Unit {0}

@@ -6,44 +6,25 @@ ghost use Rattle.ranges.specs.Ranges.{bad_pounds, bad_area, bad_heat, signed, te
 
 use exhibits::Toxic;
 use fields::Fields;
-use refusals::Refusal;
 use scenario::Tenths;
-
-// The temperature or the concentration of a card whose numbers are all in range.
-#[derive(Clone, Copy)]
-pub enum Bounds {
-    Within(Tenths),
-    Refused(Refusal),
-}
 
 // Of a flammable card the pounds are the one number that has a range.
 pub fn bad_pounds(pounds: u32) -> bool
     ensures { result ≡ bad_pounds pounds }
 {
-    if pounds == 0 {
-        true
-    } else {
-        10_000_000 < pounds
-    }
+    !(1..=10_000_000).contains(&pounds)
 }
 
 pub fn bad_area(containment: u8, area: u32) -> bool
     ensures { result ≡ bad_area containment area }
 {
-    if containment == 0 {
-        return false;
-    }
-    if area == 0 { true } else { 1_000_000 < area }
+    containment != 0 && !(1..=1_000_000).contains(&area)
 }
 
 fn bad_heat(tenths: i16) -> bool
     ensures { result ≡ bad_heat tenths }
 {
-    if factors::below(tenths, -500) {
-        true
-    } else {
-        factors::below(3000, tenths)
-    }
+    factors::below(tenths, -500) || factors::below(3000, tenths)
 }
 
 // Two's complement.
@@ -61,10 +42,10 @@ fn to_signed(heat: u16) -> i16
 pub fn tenths_of(f: Fields) -> Tenths
     ensures { result ≡ tenths_of f }
 {
-    if f.state != 5 {
-        return Tenths::Temperature(to_signed(f.heat));
+    match f.state {
+        5 => Tenths::Concentration(f.heat),
+        _ => Tenths::Temperature(to_signed(f.heat)),
     }
-    Tenths::Concentration(f.heat)
 }
 
 pub fn bad_tenths(tenths: Tenths) -> bool
@@ -79,11 +60,5 @@ pub fn bad_tenths(tenths: Tenths) -> bool
 pub fn is_out_of_range(entry: Toxic) -> bool
     ensures { result ≡ is_out_of_range entry }
 {
-    match entry {
-        Toxic::OfGas(_) => false,
-        Toxic::OfLiquid(_) => false,
-        Toxic::OfSolution(_) => false,
-        Toxic::OutOfRange => true,
-        Toxic::NotListed => false,
-    }
+    matches!(entry, Toxic::OutOfRange)
 }

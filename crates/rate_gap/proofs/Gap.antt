@@ -1,11 +1,11 @@
 -- Request A8, proved: no reported rate is below the exact one, and none is off by more than the request says.
 -- Assumes nothing.
-use Rattle.std.specs.Prelude.{ℕ, ◌+◌, ◌*◌, ◌≤◌, ◌<◌, ◌^◌, ◌≡◌, Bool, true, false, List, get_or}
+use Rattle.std.specs.Prelude.{ℕ, ◌+◌, ◌*◌, ◌≤◌, ◌<◌, ◌^◌, ◌≡◌, Bool, true, false, List, get_or, Option, Some, None, Result, Ok, Err}
+use Rattle.refusals.specs.declared.Refusal.{Refusal}
+use Rattle.units.specs.declared.Miles.{Miles}
 use Rattle.std.proofs.Common.{arith, ◌∙◌, sym, subst, subst₂}
 use Rattle.std.proofs.Math.Path.{refl}
 use Rattle.search.specs.Laws.{clash}
-use Rattle.units.specs.declared.Reading.{Reading}
-use Rattle.units.specs.declared.Reading.TheVariants as reading
 use Rattle.exhibits.specs.declared.Plume.{Plume}
 use Rattle.exhibits.specs.declared.Toxic.{Toxic}
 use Rattle.exhibits.specs.declared.Toxic.TheVariants as variants
@@ -23,14 +23,10 @@ use Rattle.pool_area.specs.Pool.{pool_area, beyond_dike}
 use Rattle.pool_area.proofs.Laws.{area_limit}
 use Rattle.which_table.specs.declared.State.{State}
 use Rattle.which_table.specs.declared.State.TheVariants.{Gas, Pressurized, Refrigerated, Liquid, Solution}
-use Rattle.factors.specs.declared.Factors.{Factors}
-use Rattle.factors.specs.declared.Factors.TheVariants.{Read, Missing}
 use Rattle.factors.specs.Factors.{factors_of}
 use Rattle.factors.proofs.Laws.{FactorsWithin, factors_within}
 use Rattle.scenario.specs.declared.ToxicCard.{ToxicCard}
 use Rattle.scenario.specs.declared.Scenario.{Scenario}
-use Rattle.scenario.specs.declared.Planned.{Planned}
-use Rattle.scenario.specs.declared.Planned.TheVariants as planned
 use Rattle.scenario.specs.Plan.{Limits, vapor_of, pool_of, undiked, pooled, gas_plan, column_in, factored, liquid_plan, plan_for, plan_of}
 use Rattle.buffer.specs.Numbers.{byte_at, eight_at, two_bytes, four_bytes}
 use Rattle.buffer.proofs.Laws.{eight_in, read_eight}
@@ -43,8 +39,6 @@ use Rattle.meaning.specs.States.{by_state}
 use Rattle.meaning.specs.Ranges.{ranged}
 use Rattle.meaning.specs.Inverse.{toxic_from}
 use Rattle.card.specs.declared.Answer.{Answer}
-use Rattle.card.specs.declared.Answered.{Answered}
-use Rattle.card.specs.declared.Answered.TheVariants as answered
 use Rattle.card.specs.Answers.{read_toxic, planned_answer, answer_for, answer_of}
 use Rattle.encode.specs.Bytes.{answer_bytes}
 use Rattle.encode.specs.Laws.{length_answer}
@@ -81,9 +75,9 @@ abbrev NearTo : Chain → Scenario → Type 0
 NearTo chain s = Reported chain s.route s.rate.0
 
 -- the same of what is planned, where something is
-abbrev Says : Chain → Planned → Type 0
-Says chain (planned.Planned s) = NearTo chain s
-Says chain planned.Mismatch = Unit {0}
+abbrev Says : Chain → Option Scenario → Type 0
+Says chain (Some s) = NearTo chain s
+Says chain None = Unit {0}
 
 undiked_says : (c : Containment) (chain : Chain) (s : Scenario) → NearTo chain s → Says chain (undiked c s)
 undiked_says Open chain s n = n
@@ -146,10 +140,10 @@ module _ (card : ToxicCard) (limits : Limits card) where
   gas_says Liquid g w = tt
   gas_says Solution g w = tt
 
-  factored_says : (f : Factors) (l : liquids.Liquid) → FactorsWithin f → Within (variants.OfLiquid l) → Says (liquid_chain f card l) (factored f card l)
-  factored_says (Read lf tcf) l f w =
+  factored_says : (f : Option (ℕ × ℕ)) (l : liquids.Liquid) → FactorsWithin f → Within (variants.OfLiquid l) → Says (liquid_chain f card l) (factored f card l)
+  factored_says (Some (lf, tcf)) l f w =
       pool_near l.df lf tcf (is_building card.containment) l.endpoint l.plume w.df_limit f.0 f.1
-  factored_says Missing l f w = tt
+  factored_says None l f w = tt
 
   liquid_says : (st : State) (l : liquids.Liquid) → Within (variants.OfLiquid l) → Says (liquid_chain (factors_of l (column_in card.tenths)) card l) (liquid_plan st card l)
   liquid_says Gas l w = tt
@@ -169,21 +163,21 @@ module _ (card : ToxicCard) (limits : Limits card) where
 
 -- ---- of an answer
 
-abbrev SaysOf : Chain → Answered → Type 0
-SaysOf chain (answered.Is a) = Reported chain a.route a.rate.0
-SaysOf chain (answered.Refused r) = Unit {0}
+abbrev SaysOf : Chain → Result Answer Refusal → Type 0
+SaysOf chain (Ok a) = Reported chain a.route a.rate.0
+SaysOf chain (Err r) = Unit {0}
 
-read_says : (x : Reading) (n : ℕ) (chain : Chain) (s : Scenario) → NearTo chain s → SaysOf chain (read_toxic x n s)
-read_says (reading.Distance d) n chain s m = m
-read_says reading.Beyond n chain s m = tt
+read_says : (x : Option Miles) (n : ℕ) (chain : Chain) (s : Scenario) → NearTo chain s → SaysOf chain (read_toxic x n s)
+read_says (Some d) n chain s m = m
+read_says None n chain s m = tt
 
-plan_says : (p : Planned) (n : ℕ) (card : ToxicCard) (chain : Chain) → Says chain p → SaysOf chain (planned_answer p n card)
-plan_says (planned.Planned s) n card chain m =
+plan_says : (p : Option Scenario) (n : ℕ) (card : ToxicCard) (chain : Chain) → Says chain p → SaysOf chain (planned_answer p n card)
+plan_says (Some s) n card chain m =
     read_says (reading_of s.table card.topography s.rate.0 s.endpoint) n chain s m
-plan_says planned.Mismatch n card chain m = tt
+plan_says None n card chain m = tt
 
 -- a toxic card that was read is within document 01's limits
-limits_of : (f : Fields) (last : ℕ) (card : ToxicCard) → meaning_of f last ≡ meaning.Toxic card → Limits card
+limits_of : (f : Fields) (last : ℕ) (card : ToxicCard) → meaning_of f last ≡ Ok (meaning.Toxic card) → Limits card
 limits_of f last card e =
     let from = toxic_from f last e in
     let range = ranged f last (λ r q. clash (cc)) in
@@ -194,16 +188,16 @@ limits_of f last card e =
           (by_state f (λ x t. Within x) (λ _. solution_within f.cas f.heat) (λ _. within f.cas));
     }
 
-meaning_says : (f : Fields) (last : ℕ) (m : Meaning) (n : ℕ) → meaning_of f last ≡ m → SaysOf (chain_in m) (answer_for m n)
+meaning_says : (f : Fields) (last : ℕ) (m : Result Meaning Refusal) (n : ℕ) → meaning_of f last ≡ m → SaysOf (chain_in m) (answer_for m n)
 unfolding plan_of
-meaning_says f last (meaning.Toxic card) n e =
+meaning_says f last (Ok (meaning.Toxic card)) n e =
     let limits = limits_of f last card e in
     plan_says (plan_of card) n card (toxic_chain card.entry card) (entry_says card limits card.entry limits.entry)
-meaning_says f last (meaning.Flammable card) n e =
+meaning_says f last (Ok (meaning.Flammable card)) n e =
     record { near = not_off blast 3 0 refl (λ q. omega arith) (omega arith) (omega arith) refl; fits = omega arith }
-meaning_says f last (meaning.Refused r) n e = tt
+meaning_says f last (Err r) n e = tt
 
-answer_near : (card : List ℕ) (last : ℕ) {a : Answer} → answer_of card last ≡ answered.Is a → Reported (chain_of card) a.route a.rate.0
+answer_near : (card : List ℕ) (last : ℕ) {a : Answer} → answer_of card last ≡ Ok a → Reported (chain_of card) a.route a.rate.0
 unfolding chain_of answer_of
 answer_near card last e =
     subst (SaysOf (chain_of card)) (answer_first card last e)

@@ -3,7 +3,8 @@
 -- feet and rates in pounds per minute here, as the paper has them; DF and TCF come in hundredths, LF in millionths, a wall in hundredths
 -- of a foot, the area of a dike or a floor in hundredths of a square foot.
 -- Assumes nothing.
-use Rattle.std.specs.Prelude.{ℕ, ◌+◌, ◌-◌, ◌*◌, min, Bool, true, false, List, leb}
+use Rattle.std.specs.Prelude.{ℕ, ◌+◌, ◌-◌, ◌*◌, min, Bool, true, false, List, leb, Option, Some, None, Result, Ok, Err}
+use Rattle.refusals.specs.declared.Refusal.{Refusal}
 use Rattle.exhibits.specs.declared.Toxic.{Toxic}
 use Rattle.exhibits.specs.declared.Toxic.TheVariants as variants
 use Rattle.exhibits.specs.declared.Gas as gases
@@ -14,8 +15,6 @@ use Rattle.release.specs.Rates.{is_building}
 use Rattle.pool_area.specs.Pool.{full_area, held, spilt, beyond_dike}
 use Rattle.which_table.specs.declared.State.{State}
 use Rattle.which_table.specs.declared.State.TheVariants.{Gas, Pressurized, Refrigerated, Liquid, Solution}
-use Rattle.factors.specs.declared.Factors.{Factors}
-use Rattle.factors.specs.declared.Factors.TheVariants.{Read, Missing}
 use Rattle.factors.specs.Factors.{factors_of}
 use Rattle.scenario.specs.declared.ToxicCard.{ToxicCard}
 use Rattle.scenario.specs.Plan.{column_in}
@@ -97,9 +96,9 @@ gas_chain Liquid card g = none
 gas_chain Solution card g = none
 
 -- "State 4 above 50.0 °C: LFB, TCF 1. State 4 otherwise: LFA and the TCF of the closest column of B-4"
-abbrev pub liquid_chain : Factors → ToxicCard → liquids.Liquid → Chain
-liquid_chain (Read lf tcf) card l = pool_over card l.df lf tcf (is_building card.containment)
-liquid_chain Missing card l = none
+abbrev pub liquid_chain : Option (ℕ × ℕ) → ToxicCard → liquids.Liquid → Chain
+liquid_chain (Some (lf, tcf)) card l = pool_over card l.df lf tcf (is_building card.containment)
+liquid_chain None card l = none
 
 -- by what the exhibits say. A solution "runs route 2 with that LFA (at 1.5 m/s) and DF, TCF 1 and the shed factor of state 4".
 abbrev pub toxic_chain : Toxic → ToxicCard → Chain
@@ -109,10 +108,10 @@ toxic_chain (variants.OfSolution s) card = pool_over card s.df s.lfa 100 (is_bui
 toxic_chain variants.OutOfRange card = none
 toxic_chain variants.NotListed card = none
 
-abbrev pub chain_in : Meaning → Chain
-chain_in (meaning.Toxic card) = toxic_chain card.entry card
-chain_in (meaning.Flammable card) = blast
-chain_in (meaning.Refused r) = none
+abbrev pub chain_in : Result Meaning Refusal → Chain
+chain_in (Ok (meaning.Toxic card)) = toxic_chain card.entry card
+chain_in (Ok (meaning.Flammable card)) = blast
+chain_in (Err r) = none
 
 -- the chain of a card's bytes, as those of a first card
 unfoldable pub chain_of : List ℕ → Chain

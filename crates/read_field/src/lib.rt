@@ -5,33 +5,30 @@ ghost use Rattle.std.specs.Prelude.{◌≡◌};
 ghost use Rattle.comma.specs.Line.{tenths_form};
 ghost use Rattle.comma.specs.Stages.{taken_at};
 
-use comma::Taken;
-use numerals::{Form, Number};
+use numerals::Form;
 
 // What fits two bytes.
 pub const TWO_BYTES: u32 = 65_535;
 
-// The number of the field that starts at a place. A comma has to end it, since a number is never the last field.
-pub fn take_field(line: &[u8], at: usize, form: Form) -> Taken
+// The number of the field that starts at a place, and where the next field starts; or none where it is not well formed. A comma has
+// to end it, since a number is never the last field.
+pub fn take_field(line: &[u8], at: usize, form: Form) -> Option<(u32, usize)>
     ensures { result ≡ taken_at form line.now at }
 {
     let end = pieces::end_of(line, at, b',');
     if line.len() <= end {
-        return Taken::Malformed;
+        return None;
     }
-    let number = read_number::value_in(form, &line[at..end]);
-    let Number::Is(n) = number else {
-        return Taken::Malformed;
-    };
-    Taken::Is(n, end + 1)
+    let number = read_number::value_in(form, &line[at..end])?;
+    Some((number, end + 1))
 }
 
 // What the ninth field is to hold: in state 5, a water solution's, a concentration without a sign, else a temperature.
 pub fn tenths_form(state: u8) -> Form
     ensures { result ≡ tenths_form state }
 {
-    if state == 5 {
-        return Form::Decimal(TWO_BYTES);
+    match state {
+        5 => Form::Decimal(TWO_BYTES),
+        _ => Form::Temperature,
     }
-    Form::Temperature
 }

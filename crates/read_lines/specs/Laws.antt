@@ -1,5 +1,6 @@
 -- The second walk comes to what a text is.
 -- Assumes nothing.
+use Rattle.std.specs.Prelude.{Option, Some, None, Result, Ok, Err}
 use Prim.Native.Nat.{ℕ, suc, ◌+◌, ◌-◌, ◌*◌, ◌≤◌, ◌<◌}
 use Rattle.std.proofs.Common.{arith, add-one, ap, ◌∙◌, ⊎_elim}
 use Rattle.std.specs.Prelude.{◌≡◌, refl, List, [], ◌∷◌, length, take, drop}
@@ -9,13 +10,9 @@ use Rattle.search.specs.Laws.{clash, lt_or_ge}
 use Rattle.buffer.proofs.Laws.{sets_append}
 use Rattle.pieces.specs.Pieces.{before}
 use Rattle.fields.specs.declared.Fields.{Fields}
-use Rattle.comma.specs.declared.Line.{Line}
-use Rattle.comma.specs.declared.Line.TheVariants as line
 use Rattle.comma.specs.Line.{line_of}
 use Rattle.comma.proofs.CardLaws.{card_length}
 use Rattle.comma.specs.Text.{Cards, cards, bad, joined, cards_in, card_bytes, bytes_of}
-use Rattle.count_lines.specs.declared.Lines.{Lines}
-use Rattle.count_lines.specs.declared.Lines.TheVariants as lines
 use Rattle.count_lines.specs.Count.{count_from}
 use Rattle.count_lines.specs.Laws.{rest, line_good, line_bad, none_left, count_start, count_turn}
 use Rattle.read_lines.specs.Walk.{laid_from}
@@ -24,11 +21,11 @@ pub lay_start : (text out : List ℕ) → laid_from 7 (cards_in text) out ≡ la
 unfolding cards_in
 lay_start text out = refl
 
-pub lay_counted : (text : List ℕ) {count : ℕ} → count_from 0 (cards_in text) ≡ lines.Good count → lines.Good count ≡ count_from 0 (rest (0 + 1) text 0)
+pub lay_counted : (text : List ℕ) {count : ℕ} → count_from 0 (cards_in text) ≡ Ok count → Ok count ≡ count_from 0 (rest (0 + 1) text 0)
 lay_counted text e = sym e ∙ count_start text
 
 -- one card more
-laid_on : (out whole : List ℕ) (place count : ℕ) (f : Fields) (c : Cards) → lines.Good count ≡ count_from place (joined f c)
+laid_on : (out whole : List ℕ) (place count : ℕ) (f : Fields) (c : Cards) → Ok count ≡ count_from place (joined f c)
     → whole ≡ laid_from (7 + 24 * place) (joined f c) out → whole ≡ laid_from (7 + 24 * (place + 1)) c (sets out (7 + 24 * place) (card_bytes f))
 unfolding bytes_of
 laid_on out whole place count f (cards xs) g e =
@@ -38,22 +35,22 @@ laid_on out whole place count f (cards xs) g e =
     ∙ ap (λ (k : ℕ). sets (sets out (7 + 24 * place) (card_bytes f)) k (bytes_of xs)) next
 laid_on out whole place count f (bad k) g e = clash (cc)
 
-module _ (count place : ℕ) (text : List ℕ) (at : ℕ) (counted : lines.Good count ≡ count_from place (rest (place + 1) text at)) where
+module _ (count place : ℕ) (text : List ℕ) (at : ℕ) (counted : Ok count ≡ count_from place (rest (place + 1) text at)) where
   -- as long as not every card is laid, there is a line
   pub lay_there : place < count → at < length text
   lay_there h = ⊎_elim (λ (there : at < length text). there) (λ (past : length text ≤ at). absurd (behind past)) (lt_or_ge at (length text))
     where
       behind : length text ≤ at → ⊥
       behind past =
-          let all : lines.Good count ≡ lines.Good (place + 0) = counted ∙ ap (count_from place) (none_left (place + 1) text at past) in
+          let all : Ok count ≡ Ok (place + 0) = counted ∙ ap (count_from place) (none_left (place + 1) text at past) in
           let same : count ≡ place + 0 = cc in omega (arith, same)
 
-  module _ (end : ℕ) (more : place < count) (e : end ≡ at + length (before 10 (drop at text))) (x : Line)
+  module _ (end : ℕ) (more : place < count) (e : end ≡ at + length (before 10 (drop at text))) (x : Option Fields)
       (f : x ≡ line_of (take (end - at) (drop at text))) where
-    pub lay_next : (c : Fields) → x ≡ line.Card c → lines.Good count ≡ count_from (place + 1) (rest (place + 1 + 1) text (end + 1))
-    lay_next c q = count_turn (lines.Good count) place text at counted end (lay_there more) e x f c q
+    pub lay_next : (c : Fields) → x ≡ Some c → Ok count ≡ count_from (place + 1) (rest (place + 1 + 1) text (end + 1))
+    lay_next c q = count_turn (Ok count) place text at counted end (lay_there more) e x f c q
 
-    pub lay_turn : (whole out after : List ℕ) (c : Fields) → x ≡ line.Card c → whole ≡ laid_from (7 + 24 * place) (rest (place + 1) text at) out
+    pub lay_turn : (whole out after : List ℕ) (c : Fields) → x ≡ Some c → whole ≡ laid_from (7 + 24 * place) (rest (place + 1) text at) out
         → after ≡ sets out (7 + 24 * place) (card_bytes c) → whole ≡ laid_from (7 + 24 * (place + 1)) (rest (place + 1 + 1) text (end + 1)) after
     lay_turn whole out after c q w a =
         let good = line_good text at end (lay_there more) e (place + 1) x f c q in
@@ -63,14 +60,14 @@ module _ (count place : ℕ) (text : List ℕ) (at : ℕ) (counted : lines.Good 
         ∙ ap (λ (k : ℕ). laid_from (7 + 24 * (place + 1)) (rest k text (end + 1)) after) (sym (add-one (place + 1)))
 
     -- a line that is not well formed cannot be met here
-    pub lay_bad : x ≡ line.Malformed → (whole out : List ℕ) → out ≡ whole
+    pub lay_bad : x ≡ None → (whole out : List ℕ) → out ≡ whole
     lay_bad q whole out =
-        let never : lines.Good count ≡ lines.Bad (place + 1) =
+        let never : Ok count ≡ Err (place + 1) =
         counted ∙ ap (count_from place) (line_bad text at end (lay_there more) e (place + 1) x f q) in
         clash (cc)
 
   -- and then none is left
-  laid_all : (c : Cards) (whole out : List ℕ) → count ≤ place → lines.Good count ≡ count_from place c → whole ≡ laid_from (7 + 24 * place) c out → out ≡ whole
+  laid_all : (c : Cards) (whole out : List ℕ) → count ≤ place → Ok count ≡ count_from place c → whole ≡ laid_from (7 + 24 * place) c out → out ≡ whole
   unfolding bytes_of
   laid_all (cards []) whole out h g w = sym w
   laid_all (cards (f ∷ xs)) whole out h g w = let same : count ≡ place + suc (length xs) = cc in absurd (omega (arith, same))
@@ -80,5 +77,5 @@ module _ (count place : ℕ) (text : List ℕ) (at : ℕ) (counted : lines.Good 
   lay_end whole out h w = laid_all (rest (place + 1) text at) whole out h counted w
 
 -- what the second walk asks of the first
-pub counted_good : (text : List ℕ) (l : Lines) (n : ℕ) → l ≡ count_from 0 (cards_in text) → l ≡ lines.Good n → count_from 0 (cards_in text) ≡ lines.Good n
+pub counted_good : (text : List ℕ) (l : Result ℕ ℕ) (n : ℕ) → l ≡ count_from 0 (cards_in text) → l ≡ Ok n → count_from 0 (cards_in text) ≡ Ok n
 counted_good text l n e q = sym e ∙ q

@@ -7,13 +7,11 @@ ghost use Rattle.comma.specs.Text.{cards_in, reading_of, read_into};
 ghost use Rattle.count_lines.specs.Count.{count_from};
 ghost use Rattle.read_lines.specs.Walk.{laid_from};
 
-use comma::{Converted, Line};
-use count_lines::Lines;
-use refusals::Refusal;
+use refusals::{Refusal, SentBack};
 
 // The second walk: the cards, one behind the other. It stops at a line that has none, which the first walk rules out.
 fn put_cards(text: &[u8], count: usize, out: &mut [u8])
-    requires { (count_from 0 (cards_in text.now) ≡ Lines.Good count) × (count ≤ 2000) × (7 + 24 * count ≤ length out.old) }
+    requires { (count_from 0 (cards_in text.now) ≡ Ok count) × (count ≤ 2000) × (7 + 24 * count ≤ length out.old) }
     ensures { out.new ≡ laid_from 7 (cards_in text.now) out.old }
 {
     let mut place = 0usize;
@@ -21,8 +19,7 @@ fn put_cards(text: &[u8], count: usize, out: &mut [u8])
     while place < count {
         let start = 7 + 24 * place;
         let end = count_lines::line_end(text, at);
-        let line = read_line::line_of(&text[at..end]);
-        let Line::Card(fields) = line else {
+        let Some(fields) = read_line::line_of(&text[at..end]) else {
             return;
         };
         register_bytes::put_card(out, start, fields);
@@ -33,22 +30,22 @@ fn put_cards(text: &[u8], count: usize, out: &mut [u8])
 
 // Reads comma lines into a register. A text with a line that is not well formed, too many lines or too short a buffer leaves
 // every byte as it was, and so do the bytes behind the register always.
-pub fn read(text: &[u8], out: &mut [u8]) -> Converted
+pub fn read(text: &[u8], out: &mut [u8]) -> Result<usize, SentBack<usize>>
     ensures value { result ≡ reading_of text.now (length out.old) }
     ensures out_after { out.new ≡ read_into text.now out.old }
 {
     let lines = count_lines::count_lines(text);
-    let Lines::Good(count) = lines else {
-        return Converted::Refused(Refusal::Line, count_lines::bad_line(lines));
-    };
-    if header::MOST_CARDS < count {
-        return Converted::Refused(Refusal::Room, 0);
-    }
-    let size = 7 + 24 * count;
-    if out.len() < size {
-        return Converted::Refused(Refusal::Room, 0);
+    let count = lines.map_err(|line| SentBack {
+        refusal: Refusal::Line,
+        place: line,
+    })?;
+    if header::MOST_CARDS < count || out.len() < 7 + 24 * count {
+        return Err(SentBack {
+            refusal: Refusal::Room,
+            place: 0,
+        });
     }
     register_bytes::put_header(out, count);
     put_cards(text, count, out);
-    Converted::Bytes(size)
+    Ok(7 + 24 * count)
 }

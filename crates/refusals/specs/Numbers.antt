@@ -1,6 +1,7 @@
 -- The numbers of document 01's "When a register is sent back", and those that document 02 adds.
 -- Assumes nothing.
 use Rattle.std.specs.Prelude.{ℕ}
+use Rattle.refusals.specs.declared.SentBack.{SentBack}
 use Rattle.refusals.specs.declared.Refusal.{Refusal}
 use Rattle.refusals.specs.declared.Refusal.TheVariants as refusal
 
@@ -27,3 +28,7 @@ number_of refusal.Concentration = 16
 -- A6
 number_of refusal.SuppliedRate = 17
 number_of refusal.SuppliedDuration = 18
+
+-- "A refusal carries its number and the card's place"
+abbrev pub refused_at : {Place : Type 0} → Refusal → Place → SentBack Place
+refused_at r place = record { refusal = r; place = place }

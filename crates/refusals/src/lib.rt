@@ -1,8 +1,8 @@
-// Why a register is sent back, a text of comma lines, or a question for a likely scenario.
+// Why a register is sent back, a text of comma lines, or a question for a likely scenario, and at which place.
 #![tactic(auto)]
 
 ghost use Rattle.std.specs.Prelude.{◌≡◌};
-ghost use Rattle.refusals.specs.Numbers.{number_of};
+ghost use Rattle.refusals.specs.Numbers.{number_of, refused_at};
 
 // Document 01's reasons 1 to 11, in its order, and those of document 02 behind them.
 #[derive(Clone, Copy)]
@@ -25,6 +25,22 @@ pub enum Refusal {
     Concentration,
     SuppliedRate,
     SuppliedDuration,
+}
+
+// A refusal and its place: a card's, counted from 0, or a line's, counted from 1.
+#[derive(Clone, Copy)]
+pub struct SentBack<Place> {
+    pub refusal: Refusal,
+    pub place: Place,
+}
+
+// "(0 for 1 to 4, and wherever no card is meant)"
+impl From<Refusal> for SentBack<u32> {
+    ghost from_gives = { λ r sent. sent ≡ refused_at r 0 };
+
+    fn from(refusal: Refusal) -> SentBack<u32> {
+        SentBack { refusal, place: 0 }
+    }
 }
 
 // The number of a refusal.

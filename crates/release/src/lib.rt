@@ -110,10 +110,5 @@ pub fn at_most_ten_minutes(quantity: Pounds, rate: PoundsPerMinute) -> bool
 pub fn is_building(containment: Containment) -> bool
     ensures { result ≡ is_building containment }
 {
-    match containment {
-        Containment::Open => false,
-        Containment::Dike(_) => false,
-        Containment::Building(_) => true,
-        Containment::ShedWithDoors(_) => false,
-    }
+    matches!(containment, Containment::Building(_))
 }

@@ -1,14 +1,12 @@
 -- What callers use of the rules instead of their text, for any table: the closest row is found by cut points, the range that is
 -- read holds the ratio, and a larger rate never reads a shorter distance.
 -- Assumes nothing.
-use Rattle.std.specs.Prelude.{ℕ, zero, suc, ◌*◌, ◌≤◌, ◌<◌, ◌≡◌, refl, List, [], ◌∷◌, map, Bool, true, false, ltb, eqb, length, get_or, take}
+use Rattle.std.specs.Prelude.{ℕ, zero, suc, ◌*◌, ◌≤◌, ◌<◌, ◌≡◌, refl, List, [], ◌∷◌, map, Bool, true, false, ltb, eqb, length, get_or, take, Option, Some, None}
 use Rattle.std.proofs.Common.{zero-le, suc-le-suc, le_refl, le_of_suc-le-suc, not-suc-le-zero, mul-le-mul_left, arith, ap, ⊎_elim, lt-ltb, le-ltb, ne_eqb, eqb-true}
 use Rattle.std.proofs.lemmas.List.{length-map}
 use Rattle.search.specs.Rising.{first_at_least, both}
 use Rattle.search.specs.Laws.{lt_or_ge, first_mono, both_true}
 use Rattle.units.specs.declared.Miles.{Miles}
-use Rattle.units.specs.declared.Reading.{Reading}
-use Rattle.units.specs.declared.Reading.TheVariants.{Distance, Beyond}
 use Rattle.rules.specs.Printed.{Mark, blank, Range, closed, above}
 use Rattle.rules.specs.Rules.{distance, largest, in_use, larger, smaller, thousandths, closest_row, closest_column, last_of, mile_limit, answered, by_row, ratio_below, holding, past, mark_of, by_range}
 use Rattle.rules.specs.Cuts.{cuts, climbs, uppers, scaled}
@@ -30,25 +28,25 @@ unfolding in_use
 in_use_mono entries i k h = largest_take (suc i) (suc k) entries (suc-le-suc h)
 
 -- a distance that is answered is the entry in use
-pub answered_distance : (beyond : Bool) (entry : ℕ) (d : Miles) → answered beyond entry ≡ Distance d → entry ≡ d.0
+pub answered_distance : (beyond : Bool) (entry : ℕ) (d : Miles) → answered beyond entry ≡ Some d → entry ≡ d.0
 unfolding answered
 answered_distance false entry d e = cc
 answered_distance true entry d e = go (eqb entry mile_limit) e
   where
-    go : (t : Bool) → (elim t as (λ _. Reading) [ true ↦ Distance (record { 0 = entry }) | false ↦ Beyond ]) ≡ Distance d → entry ≡ d.0
+    go : (t : Bool) → (elim t as (λ _. Option Miles) [ true ↦ Some (record { 0 = entry }) | false ↦ None ]) ≡ Some d → entry ≡ d.0
     go true p = cc
     go false p = cc
 
 -- the three ways of an answer
-pub answered_within : (last rate entry : ℕ) → rate ≤ last → answered (ltb last rate) entry ≡ Distance (record { 0 = entry })
+pub answered_within : (last rate entry : ℕ) → rate ≤ last → answered (ltb last rate) entry ≡ Some (record { 0 = entry })
 unfolding answered
 answered_within last rate entry h = rw (le-ltb last rate h)
 
-pub answered_limit : (last rate entry : ℕ) → last < rate → entry ≡ mile_limit → answered (ltb last rate) entry ≡ Distance (record { 0 = entry })
+pub answered_limit : (last rate entry : ℕ) → last < rate → entry ≡ mile_limit → answered (ltb last rate) entry ≡ Some (record { 0 = entry })
 unfolding answered
 answered_limit last rate entry h e = rw (lt-ltb last rate h, e)
 
-pub answered_beyond : (last rate entry : ℕ) → last < rate → (entry ≡ mile_limit → ⊥) → answered (ltb last rate) entry ≡ Beyond
+pub answered_beyond : (last rate entry : ℕ) → last < rate → (entry ≡ mile_limit → ⊥) → answered (ltb last rate) entry ≡ None
 unfolding answered
 answered_beyond last rate entry h e = rw (lt-ltb last rate h, ne_eqb entry mile_limit e, answered)
 
@@ -138,7 +136,7 @@ range_holds rate endpoint bound (closed from upto mark ∷ rest) e l h =
 
 -- whatever is read of one list of entries at two places, the earlier place reads no more
 read_mono : (a b : Bool) (entries : List ℕ) (i k : ℕ) (d f : Miles) → i ≤ k
-    → answered a (in_use entries i) ≡ Distance d → answered b (in_use entries k) ≡ Distance f → d.0 ≤ f.0
+    → answered a (in_use entries i) ≡ Some d → answered b (in_use entries k) ≡ Some f → d.0 ≤ f.0
 read_mono a b entries i k d f h p q =
     let l : in_use entries i ≡ d.0 = answered_distance a (in_use entries i) d p in
     let r : in_use entries k ≡ f.0 = answered_distance b (in_use entries k) f q in
@@ -146,7 +144,7 @@ read_mono a b entries i k d f h p q =
     omega arith
 
 pub row_mono : (rates entries : List ℕ) (r s : ℕ) (d f : Miles) → climbs (thousandths rates) ≡ true → r ≤ s
-    → by_row rates entries r ≡ Distance d → by_row rates entries s ≡ Distance f → d.0 ≤ f.0
+    → by_row rates entries r ≡ Some d → by_row rates entries s ≡ Some f → d.0 ≤ f.0
 unfolding by_row
 row_mono rates entries r s d f e h p q =
     read_mono (ltb (last_of (thousandths rates)) r) (ltb (last_of (thousandths rates)) s) entries
@@ -159,7 +157,7 @@ row_mono rates entries r s d f e h p q =
     q
 
 pub range_mono : (table : List Range) (e r s : ℕ) (d f : Miles) → r ≤ s
-    → by_range table r e ≡ Distance d → by_range table s e ≡ Distance f → d.0 ≤ f.0
+    → by_range table r e ≡ Some d → by_range table s e ≡ Some f → d.0 ≤ f.0
 unfolding by_range
 range_mono table e r s d f h p q =
     read_mono (past r e table) (past s e table) (map (λ range. distance (mark_of range)) table)

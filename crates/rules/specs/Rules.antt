@@ -1,9 +1,8 @@
 -- How Reference Tables 1 to 12 are read, one definition for each sentence of document 01, "Which table, and how it is read".
 -- Rates are in thousandths of a pound per minute, endpoints in hundred-thousandths of mg/L.
 -- Assumes nothing.
-use Rattle.std.specs.Prelude.{ℕ, suc, ◌+◌, ◌*◌, ◌-◌, max, List, [], ◌∷◌, map, Bool, true, false, leb, ltb, eqb, length, get_or, take, drop}
-use Rattle.units.specs.declared.Reading.{Reading}
-use Rattle.units.specs.declared.Reading.TheVariants.{Distance, Beyond}
+use Rattle.std.specs.Prelude.{ℕ, suc, ◌+◌, ◌*◌, ◌-◌, max, List, [], ◌∷◌, map, Bool, true, false, leb, ltb, eqb, length, get_or, take, drop, Option, Some, None}
+use Rattle.units.specs.declared.Miles.{Miles}
 use Rattle.rules.specs.Printed.{Mark, miles, less, hash, more, star, stars, blank, Range, closed, above}
 
 -- the distances that marks stand for: 0.1 mile and 25 miles
@@ -78,12 +77,12 @@ last_of numbers = get_or numbers (length numbers - 1) 0
 
 -- "Above the last row, a last entry in use of 25 miles is answered; any other is refusal 11": whether the card lies
 -- above the table's last row (or range), and the entry in use
-unfoldable pub answered : Bool → ℕ → Reading
-answered false entry = Distance (record { 0 = entry })
-answered true entry = elim (eqb entry mile_limit) [ true ↦ Distance (record { 0 = entry }) | false ↦ Beyond ]
+unfoldable pub answered : Bool → ℕ → Option Miles
+answered false entry = Some (record { 0 = entry })
+answered true entry = elim (eqb entry mile_limit) [ true ↦ Some (record { 0 = entry }) | false ↦ None ]
 
 -- a table of rows: their rates in lbs/min, and their entries as printed in the column that is read
-unfoldable pub by_row : List ℕ → List ℕ → ℕ → Reading
+unfoldable pub by_row : List ℕ → List ℕ → ℕ → Option Miles
 by_row rates entries rate =
     answered (ltb (last_of (thousandths rates)) rate) (in_use entries (closest_row rate rates))
 
@@ -111,7 +110,7 @@ past rate endpoint (closed from upto mark ∷ []) = ltb (upto * endpoint) (1000 
 past rate endpoint (closed from upto mark ∷ (next ∷ rest)) = past rate endpoint (next ∷ rest)
 
 -- "above a closed last range the same rule as above the last row holds"; at its upper bound the last range is read
-unfoldable pub by_range : List Range → ℕ → ℕ → Reading
+unfoldable pub by_range : List Range → ℕ → ℕ → Option Miles
 by_range table rate endpoint =
     answered
     (past rate endpoint table)

@@ -6,7 +6,7 @@ ghost use Rattle.search.specs.Rising.{first_at_least};
 ghost use Rattle.rules.specs.Rules.{answered};
 ghost use Rattle.rules.specs.Cuts.{scaled};
 
-use units::{Miles, Reading};
+use units::Miles;
 
 // 25 miles, in hundredths.
 const MILE_LIMIT: u16 = 2500;
@@ -39,14 +39,15 @@ pub fn settle(rows: &[u64], columns: &[u64], rate: u64, endpoint: u64) -> Place
     Place { row, column }
 }
 
-// What an entry in use answers: up to the last row it is the distance, above it only where it is 25 miles.
-pub fn answer(last: u64, rate: u64, entry: u16) -> Reading
+// What an entry in use answers: up to the last row it is the distance, above it only where it is 25 miles. Otherwise the card lies
+// beyond the table.
+pub fn answer(last: u64, rate: u64, entry: u16) -> Option<Miles>
     ensures { result ≡ answered (ltb last rate) entry }
 {
     if rate <= last || entry == MILE_LIMIT {
-        return Reading::Distance(Miles(entry));
+        return Some(Miles(entry));
     }
-    Reading::Beyond
+    None
 }
 
 // The least rate at which rate / endpoint reaches a bound. The bound is scaled down, since the rate could not be scaled up
@@ -58,16 +59,12 @@ fn reaching(bound: u32, endpoint: u32) -> u64
 }
 
 // A table of ranges, by the upper bounds of the closed ones and the entries in use, the open range's last.
-pub fn by_range(bounds: &[u32], entries: &[u16], rate: u64, endpoint: u32) -> Reading
+pub fn by_range(bounds: &[u32], entries: &[u16], rate: u64, endpoint: u32) -> Option<Miles>
     requires { length entries.now ≡ length bounds.now + 1 }
     ensures { result ≡ answered false (get_or entries.now (first_at_least (suc (1000 * rate)) (scaled endpoint bounds.now)) 0) }
 {
-    let mut i = 0;
-    while i < bounds.len() {
-        if rate < reaching(bounds[i], endpoint) {
-            break;
-        }
-        i += 1;
-    }
-    Reading::Distance(Miles(entries[i]))
+    let range = bounds
+        .iter()
+        .position(|&bound| rate < reaching(bound, endpoint));
+    Some(Miles(entries[range.unwrap_or(bounds.len())]))
 }

@@ -1,25 +1,23 @@
 -- What callers use of the running values instead of a step's text.
 -- Assumes nothing.
-use Rattle.std.specs.Prelude.{ℕ, suc, ◌+◌, ◌≡◌, refl, List, [], ◌∷◌, length}
+use Rattle.std.specs.Prelude.{ℕ, suc, ◌+◌, ◌≡◌, refl, List, [], ◌∷◌, length, Result, Ok, Err}
+use Rattle.refusals.specs.declared.Refusal.{Refusal}
 use Rattle.std.proofs.Common.{arith, ap}
 use Rattle.search.specs.Laws.{clash}
 use Rattle.card.specs.declared.Answer.{Answer}
-use Rattle.card.specs.declared.Answered.{Answered}
-use Rattle.card.specs.declared.Answered.TheVariants as answered
 use Rattle.card.specs.Answers.{answer_of}
 use Rattle.farthest.specs.Farthest.{leaders_from}
 use Rattle.running.specs.declared.Running.{Running}
-use Rattle.running.specs.declared.Stepped.TheVariants as stepped
 use Rattle.running.specs.Running.{after_card, step_to, step_of, running_after}
 
 -- a step goes to the next place
-pub on_place : (s t : Running) (a : Answer) (card : List ℕ) → step_of s card ≡ stepped.On t a → t.place ≡ suc s.place
+pub on_place : (s t : Running) (a : Answer) (card : List ℕ) → step_of s card ≡ Ok (t, a) → t.place ≡ suc s.place
 unfolding step_of
 on_place s t a card = go (answer_of card s.last)
   where
-    go : (y : Answered) → step_to y s ≡ stepped.On t a → t.place ≡ suc s.place
-    go (answered.Is b) q = let z : t ≡ after_card s b = cc in ap (λ (u : Running). u.place) z
-    go (answered.Refused r) q = clash (cc)
+    go : (y : Result Answer Refusal) → step_to y s ≡ Ok (t, a) → t.place ≡ suc s.place
+    go (Ok b) q = let z : t ≡ after_card s b = cc in ap (λ (u : Running). u.place) z
+    go (Err r) q = clash (cc)
 
 -- the leaders are those of the cards passed
 pub running_leaders : (s : Running) (xs : List Answer) → (running_after s xs).leaders ≡ leaders_from s.leaders xs

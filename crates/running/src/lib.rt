@@ -4,9 +4,9 @@
 ghost use Rattle.std.specs.Prelude.{◌≡◌, ◌+◌, ◌*◌, ◌≤◌, ◌<◌, length, take, drop};
 ghost use Rattle.running.specs.Running.{before_cards, step_of};
 
-use card::{Answer, Answered};
+use card::Answer;
 use farthest::Leaders;
-use refusals::Refusal;
+use refusals::SentBack;
 
 // The running values: the farthest card of each class so far, the last card's number, and the place of the next card.
 #[derive(Clone, Copy)]
@@ -14,13 +14,6 @@ pub struct Running {
     pub leaders: Leaders,
     pub last: u32,
     pub place: usize,
-}
-
-// A step: the running values after a card, and what the card answers; or why it is sent back, and its place.
-#[derive(Clone, Copy)]
-pub enum Stepped {
-    On(Running, Answer),
-    Refused(Refusal, u32),
 }
 
 // The running values before the first card.
@@ -34,29 +27,26 @@ pub fn start() -> Running
     }
 }
 
-// One card more.
-pub fn step(running: Running, card: &[u8]) -> Stepped
+// One card more: the running values after it, and what it answers; or why it is sent back, and its place.
+pub fn step(running: Running, card: &[u8]) -> Result<(Running, Answer), SentBack<u32>>
     requires { running.place < 2000 }
     ensures { result ≡ step_of running card.now }
 {
-    let answered = card::answer_of(card, running.last);
-    match answered {
-        Answered::Is(answer) => {
-            let before = running.leaders;
-            let leaders = farthest::lead(before, answer);
-            let next = Running {
-                leaders,
-                last: answer.number,
-                place: running.place + 1,
-            };
-            Stepped::On(next, answer)
-        }
-        Answered::Refused(refusal) => Stepped::Refused(refusal, running.place as u32),
-    }
+    let place = running.place as u32;
+    let answer = card::answer_of(card, running.last).map_err(|refusal| SentBack {
+        refusal,
+        place,
+    })?;
+    let next = Running {
+        leaders: farthest::lead(running.leaders, answer),
+        last: answer.number,
+        place: running.place + 1,
+    };
+    Ok((next, answer))
 }
 
 // The step to the card at the running place.
-pub fn step_at(cards: &[u8], running: Running) -> Stepped
+pub fn step_at(cards: &[u8], running: Running) -> Result<(Running, Answer), SentBack<u32>>
     requires { (running.place < 2000) × (24 * running.place + 24 ≤ length cards.now) }
     ensures { result ≡ step_of running (take 24 (drop (24 * running.place) cards.now)) }
 {

@@ -1,6 +1,6 @@
 -- A fuller or less walled vessel never has the lower rate on the same route.
 -- Assumes nothing.
-use Rattle.std.specs.Prelude.{ℕ, ◌≤◌, ◌≡◌, Bool, true, false, ◌⊎◌}
+use Rattle.std.specs.Prelude.{ℕ, ◌≤◌, ◌≡◌, Bool, true, false, ◌⊎◌, Option, Some, None}
 use Rattle.std.proofs.Common.{arith, ◌∙◌, sym, ap, inl, inr}
 use Rattle.std.proofs.Math.Path.{refl, subst}
 use Rattle.exhibits.specs.declared.Plume.{Plume}
@@ -19,11 +19,7 @@ use Rattle.which_table.specs.declared.State.{State}
 use Rattle.which_table.specs.declared.State.TheVariants.{Gas, Pressurized, Refrigerated, Liquid, Solution}
 use Rattle.scenario.specs.declared.ToxicCard.{ToxicCard}
 use Rattle.scenario.specs.declared.Scenario.{Scenario}
-use Rattle.factors.specs.declared.Factors.{Factors}
-use Rattle.factors.specs.declared.Factors.TheVariants.{Read, Missing}
 use Rattle.factors.specs.Factors.{factors_of}
-use Rattle.scenario.specs.declared.Planned.{Planned}
-use Rattle.scenario.specs.declared.Planned.TheVariants as planned
 use Rattle.scenario.specs.Plan.{vapor_of, pool_of, undiked, pooled, gas_plan, column_in, factored, liquid_plan, plan_for, plan_of}
 
 -- the second card holds the same substance in the same way, at least as much of it, and no better contained
@@ -47,19 +43,19 @@ same_kind (dike_dike d e a w) = refl
 same_kind (building_building b e f) = refl
 same_kind (shed_shed s e f) = refl
 
-planned_is : {s t : Scenario} → ◌≡◌ {A = Planned} (planned.Planned s) (planned.Planned t) → s ≡ t
+planned_is : {s t : Scenario} → ◌≡◌ {A = (Option Scenario)} (Some s) (Some t) → s ≡ t
 planned_is e = cc
 
-not_planned : {s : Scenario} → ◌≡◌ {A = Planned} planned.Mismatch (planned.Planned s) → ⊥
+not_planned : {s : Scenario} → ◌≡◌ {A = (Option Scenario)} None (Some s) → ⊥
 not_planned e = let z : ◌≡◌ {A = ℕ} 0 1 = cc in omega arith
 
-undiked_is : (c : Containment) {s t : Scenario} → undiked c s ≡ planned.Planned t → s ≡ t
+undiked_is : (c : Containment) {s t : Scenario} → undiked c s ≡ Some t → s ≡ t
 undiked_is Open e = planned_is e
 undiked_is (Dike d) e = absurd (not_planned e)
 undiked_is (Building b) e = planned_is e
 undiked_is (ShedWithDoors d) e = planned_is e
 
-pooled_is : (b : Bool) {p v t : Scenario} → pooled b p v ≡ planned.Planned t → (p ≡ t) ⊎ (v ≡ t)
+pooled_is : (b : Bool) {p v t : Scenario} → pooled b p v ≡ Some t → (p ≡ t) ⊎ (v ≡ t)
 pooled_is true e = inl (planned_is e)
 pooled_is false e = inr (planned_is e)
 
@@ -110,7 +106,7 @@ module _ (a b : ToxicCard) (f : Fuller a b) where
       (same_kind f.containment)
       (pool_faster df lf tcf (is_building a.containment) endpoint plume)
 
-  gas_faster : (st : State) (g : gases.Gas) {s t : Scenario} → gas_plan st a g ≡ planned.Planned s → gas_plan st b g ≡ planned.Planned t → s.route ≡ t.route → Faster s t
+  gas_faster : (st : State) (g : gases.Gas) {s t : Scenario} → gas_plan st a g ≡ Some s → gas_plan st b g ≡ Some t → s.route ≡ t.route → Faster s t
   gas_faster Gas g d e r =
       named (undiked_is a.containment d) (undiked_is b.containment e) (vapor_faster g.endpoint g.plume)
   gas_faster Pressurized g d e r =
@@ -126,30 +122,30 @@ module _ (a b : ToxicCard) (f : Fuller a b) where
   gas_faster Liquid g d e r = absurd (not_planned d)
   gas_faster Solution g d e r = absurd (not_planned d)
 
-  liquid_faster : (st : State) (l : liquids.Liquid) {s t : Scenario} → liquid_plan st a l ≡ planned.Planned s → liquid_plan st b l ≡ planned.Planned t → Faster s t
+  liquid_faster : (st : State) (l : liquids.Liquid) {s t : Scenario} → liquid_plan st a l ≡ Some s → liquid_plan st b l ≡ Some t → Faster s t
   liquid_faster Gas l d e = absurd (not_planned d)
   liquid_faster Pressurized l d e = absurd (not_planned d)
   liquid_faster Refrigerated l d e = absurd (not_planned d)
   liquid_faster Solution l d e = absurd (not_planned d)
-  liquid_faster Liquid l {s} {t} d e = go (factors_of l (column_in a.tenths)) d (subst (λ x. factored (factors_of l (column_in x)) b l ≡ planned.Planned t) (sym f.tenths) e)
+  liquid_faster Liquid l {s} {t} d e = go (factors_of l (column_in a.tenths)) d (subst (λ x. factored (factors_of l (column_in x)) b l ≡ Some t) (sym f.tenths) e)
     where
-      go : (x : Factors) → factored x a l ≡ planned.Planned s → factored x b l ≡ planned.Planned t → Faster s t
-      go (Read lf tcf) p q =
+      go : (x : Option (ℕ × ℕ)) → factored x a l ≡ Some s → factored x b l ≡ Some t → Faster s t
+      go (Some (lf, tcf)) p q =
           named (planned_is p) (planned_is q) (shed_faster l.df lf tcf l.endpoint l.plume)
-      go Missing p q = absurd (not_planned p)
+      go None p q = absurd (not_planned p)
 
-  entry_faster : (x : Toxic) (st : State) {s t : Scenario} → a.state ≡ st → b.state ≡ st → plan_for x a ≡ planned.Planned s → plan_for x b ≡ planned.Planned t → s.route ≡ t.route → Faster s t
+  entry_faster : (x : Toxic) (st : State) {s t : Scenario} → a.state ≡ st → b.state ≡ st → plan_for x a ≡ Some s → plan_for x b ≡ Some t → s.route ≡ t.route → Faster s t
   entry_faster (variants.OfGas g) st {s} {t} m n d e r =
-      gas_faster st g (subst (λ x. gas_plan x a g ≡ planned.Planned s) m d) (subst (λ x. gas_plan x b g ≡ planned.Planned t) n e) r
+      gas_faster st g (subst (λ x. gas_plan x a g ≡ Some s) m d) (subst (λ x. gas_plan x b g ≡ Some t) n e) r
   entry_faster (variants.OfLiquid l) st {s} {t} m n d e r =
-      liquid_faster st l (subst (λ x. liquid_plan x a l ≡ planned.Planned s) m d) (subst (λ x. liquid_plan x b l ≡ planned.Planned t) n e)
+      liquid_faster st l (subst (λ x. liquid_plan x a l ≡ Some s) m d) (subst (λ x. liquid_plan x b l ≡ Some t) n e)
   entry_faster (variants.OfSolution x) st m n d e r =
       named (planned_is d) (planned_is e) (shed_faster x.df x.lfa 100 x.endpoint x.plume)
   entry_faster variants.OutOfRange st m n d e r = absurd (not_planned d)
   entry_faster variants.NotListed st m n d e r = absurd (not_planned d)
 
   -- the law that the two-card law of the layer above is built from
-  pub plan_faster : {s t : Scenario} → plan_of a ≡ planned.Planned s → plan_of b ≡ planned.Planned t → s.route ≡ t.route → Faster s t
+  pub plan_faster : {s t : Scenario} → plan_of a ≡ Some s → plan_of b ≡ Some t → s.route ≡ t.route → Faster s t
   unfolding plan_of
   plan_faster {s} {t} d e r =
-      entry_faster a.entry a.state refl (sym f.state) d (subst (λ x. plan_for x b ≡ planned.Planned t) (sym f.entry) e) r
+      entry_faster a.entry a.state refl (sym f.state) d (subst (λ x. plan_for x b ≡ Some t) (sym f.entry) e) r

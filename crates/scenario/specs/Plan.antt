@@ -1,7 +1,7 @@
 -- Route and rate of a toxic card, as document 01 gives them under 'Route and rate', and document 02 in A3 for state 5 and in A5 for
 -- containment 3.
 -- Assumes nothing.
-use Rattle.std.specs.Prelude.{ℕ, ◌≤◌, Bool, true, false}
+use Rattle.std.specs.Prelude.{ℕ, ◌≤◌, Bool, true, false, Option, Some, None}
 use Rattle.exhibits.specs.declared.Plume.{Plume}
 use Rattle.exhibits.specs.declared.Toxic.{Toxic}
 use Rattle.exhibits.specs.declared.Toxic.TheVariants as variants
@@ -22,11 +22,7 @@ use Rattle.scenario.specs.declared.ToxicCard.{ToxicCard}
 use Rattle.scenario.specs.declared.Scenario.{Scenario}
 use Rattle.factors.specs.declared.Column.{Column}
 use Rattle.factors.specs.declared.Column.TheVariants.{At25}
-use Rattle.factors.specs.declared.Factors.{Factors}
-use Rattle.factors.specs.declared.Factors.TheVariants.{Read, Missing}
 use Rattle.factors.specs.Factors.{column_of, factors_of}
-use Rattle.scenario.specs.declared.Planned.{Planned}
-use Rattle.scenario.specs.declared.Planned.TheVariants as planned
 
 -- "Route 1, gas over ten minutes"; "Route 1 selects the 10-minute one."
 unfoldable pub vapor_of : ToxicCard → ℕ → Plume → Scenario
@@ -52,20 +48,20 @@ pool_of card df lf tcf shed endpoint plume =
     }
 
 -- "dike in 1 or 2" is refused: a gas that leaves by itself meets no dike
-abbrev pub undiked : Containment → Scenario → Planned
-undiked Open s = planned.Planned s
-undiked (Dike d) s = planned.Mismatch
-undiked (Building b) s = planned.Planned s
-undiked (ShedWithDoors d) s = planned.Planned s
+abbrev pub undiked : Containment → Scenario → Option Scenario
+undiked Open s = Some s
+undiked (Dike d) s = None
+undiked (Building b) s = Some s
+undiked (ShedWithDoors d) s = Some s
 
 -- "state 3 unless diked with a full area above the diked area": the pool that stays in or runs over the dike, or the vapor
-abbrev pub pooled : Bool → Scenario → Scenario → Planned
-pooled true pool vapor = planned.Planned pool
-pooled false pool vapor = planned.Planned vapor
+abbrev pub pooled : Bool → Scenario → Scenario → Option Scenario
+pooled true pool vapor = Some pool
+pooled false pool vapor = Some vapor
 
 -- "Route 1 .. States 1 and 2 always; state 3 unless diked with a full area above the diked area"; "State 3: LFB, TCF 1";
 -- "gas in state 4" is refused
-abbrev pub gas_plan : State → ToxicCard → gases.Gas → Planned
+abbrev pub gas_plan : State → ToxicCard → gases.Gas → Option Scenario
 gas_plan Gas card g = undiked card.containment (vapor_of card g.endpoint g.plume)
 gas_plan Pressurized card g = undiked card.containment (vapor_of card g.endpoint g.plume)
 gas_plan Refrigerated card g =
@@ -73,8 +69,8 @@ gas_plan Refrigerated card g =
     (beyond_dike card.quantity.0 g.df card.containment)
     (pool_of card g.df g.lfb 100 false g.endpoint g.plume)
     (vapor_of card g.endpoint g.plume)
-gas_plan Liquid card g = planned.Mismatch
-gas_plan Solution card g = planned.Mismatch
+gas_plan Liquid card g = None
+gas_plan Solution card g = None
 
 -- the column of Exhibit B-4 that a temperature reads; of a solution "the spill is at 25 °C"
 abbrev pub column_in : Tenths → Column
@@ -82,34 +78,34 @@ column_in (Temperature t) = column_of t
 column_in (Concentration c) = At25
 
 -- a pool with the factors read, or "an exhibit field .. marked as without data"
-abbrev pub factored : Factors → ToxicCard → liquids.Liquid → Planned
-factored (Read lf tcf) card l =
-    planned.Planned (pool_of card l.df lf tcf (is_building card.containment) l.endpoint l.plume)
-factored Missing card l = planned.Mismatch
+abbrev pub factored : Option (ℕ × ℕ) → ToxicCard → liquids.Liquid → Option Scenario
+factored (Some (lf, tcf)) card l =
+    Some (pool_of card l.df lf tcf (is_building card.containment) l.endpoint l.plume)
+factored None card l = None
 
 -- "liquid in 1 to 3" is refused
-abbrev pub liquid_plan : State → ToxicCard → liquids.Liquid → Planned
-liquid_plan Gas card l = planned.Mismatch
-liquid_plan Pressurized card l = planned.Mismatch
-liquid_plan Refrigerated card l = planned.Mismatch
+abbrev pub liquid_plan : State → ToxicCard → liquids.Liquid → Option Scenario
+liquid_plan Gas card l = None
+liquid_plan Pressurized card l = None
+liquid_plan Refrigerated card l = None
 liquid_plan Liquid card l = factored (factors_of l (column_in card.tenths)) card l
-liquid_plan Solution card l = planned.Mismatch
+liquid_plan Solution card l = None
 
 -- "It runs route 2 with that LFA (at 1.5 m/s) and DF, TCF 1 and the shed factor of state 4": the line of B-3 that is read. "Pounds
 -- mean the whole solution", so the pool is that of the card's quantity, as ever.
-abbrev pub solution_plan : ToxicCard → solutions.Solution → Planned
+abbrev pub solution_plan : ToxicCard → solutions.Solution → Option Scenario
 solution_plan card s =
-    planned.Planned (pool_of card s.df s.lfa 100 (is_building card.containment) s.endpoint s.plume)
+    Some (pool_of card s.df s.lfa 100 (is_building card.containment) s.endpoint s.plume)
 
 -- the scenario of a toxic card, or refusal 10. What the exhibits say goes by the state: a line of B-3 is a card's in state 5 alone.
-abbrev pub plan_for : Toxic → ToxicCard → Planned
+abbrev pub plan_for : Toxic → ToxicCard → Option Scenario
 plan_for (variants.OfGas g) card = gas_plan card.state card g
 plan_for (variants.OfLiquid l) card = liquid_plan card.state card l
 plan_for (variants.OfSolution s) card = solution_plan card s
-plan_for variants.OutOfRange card = planned.Mismatch
-plan_for variants.NotListed card = planned.Mismatch
+plan_for variants.OutOfRange card = None
+plan_for variants.NotListed card = None
 
-unfoldable pub plan_of : ToxicCard → Planned
+unfoldable pub plan_of : ToxicCard → Option Scenario
 plan_of card = plan_for card.entry card
 
 -- document 01's limits on a card that has been read

@@ -7,7 +7,7 @@ ghost use Rattle.scenario.specs.Plan.{vapor_of, pool_of, undiked, gas_plan, colu
 
 use dispersion::Ground;
 use exhibits::{Gas, Liquid, Plume, Solution, Toxic};
-use factors::{Column, Factors};
+use factors::Column;
 use release::Containment;
 use units::{Pounds, PoundsPerMinute};
 use which_table::State;
@@ -41,28 +41,15 @@ pub struct Scenario {
     pub endpoint: u32,
 }
 
-// A card's scenario, or that its state, containment or exhibit does not allow one.
-#[derive(Clone, Copy)]
-pub enum Planned {
-    Planned(Scenario),
-    Mismatch,
-}
-
 // Route 1: the whole quantity as a gas over ten minutes.
 fn vapor(card: ToxicCard, endpoint: u32, plume: Plume) -> Scenario
     ensures { result ≡ vapor_of card endpoint plume }
 {
-    let containment = card.containment;
-    let quantity = card.quantity;
-    let state = card.state;
-    let topography = card.topography;
-    let inside = release::is_building(containment);
-    let rate = release::gas_rate(quantity, inside);
-    let number = which_table::table(card.cas, state, plume, topography, true);
+    let inside = release::is_building(card.containment);
     Scenario {
         route: 1,
-        table: number,
-        rate,
+        table: which_table::table(card.cas, card.state, plume, card.topography, true),
+        rate: release::gas_rate(card.quantity, inside),
         endpoint,
     }
 }
@@ -86,73 +73,60 @@ fn pool(card: ToxicCard, source: Source) -> Scenario
     requires tcf_bound { source.tcf ≤ 1_000 }
     ensures { result ≡ pool_of card source.df source.lf source.tcf source.shed source.endpoint source.plume }
 {
-    let containment = card.containment;
-    let quantity = card.quantity;
-    let state = card.state;
-    let topography = card.topography;
-    let plume = source.plume;
-    let area = pool_area::pool_area(quantity, source.df, containment);
+    let area = pool_area::pool_area(card.quantity, source.df, card.containment);
     let rate = release::pool_rate(source.lf, source.tcf, area, source.shed);
-    let ten = release::at_most_ten_minutes(quantity, rate);
-    let number = which_table::table(card.cas, state, plume, topography, ten);
+    let ten = release::at_most_ten_minutes(card.quantity, rate);
     Scenario {
         route: 2,
-        table: number,
+        table: which_table::table(card.cas, card.state, source.plume, card.topography, ten),
         rate,
         endpoint: source.endpoint,
     }
 }
 
 // Route 1 of a gas that stands under its own pressure, which no dike holds.
-fn freed(card: ToxicCard, gas: Gas) -> Planned
+fn freed(card: ToxicCard, gas: Gas) -> Option<Scenario>
     ensures { result ≡ undiked card.containment (vapor_of card gas.endpoint gas.plume) }
 {
-    let containment = card.containment;
-    let plume = gas.plume;
-    let scenario = vapor(card, gas.endpoint, plume);
-    match containment {
-        Containment::Open => Planned::Planned(scenario),
-        Containment::Dike(_) => Planned::Mismatch,
-        Containment::Building(_) => Planned::Planned(scenario),
-        Containment::ShedWithDoors(_) => Planned::Planned(scenario),
+    match card.containment {
+        Containment::Dike(_) => None,
+        Containment::Open | Containment::Building(_) | Containment::ShedWithDoors(_) => Some(vapor(
+            card,
+            gas.endpoint,
+            gas.plume,
+        )),
     }
 }
 
 // A refrigerated gas: a pool where it runs beyond its dike's area, a vapor otherwise.
-fn refrigerated(card: ToxicCard, gas: Gas) -> Planned
+fn refrigerated(card: ToxicCard, gas: Gas) -> Option<Scenario>
     requires quantity_bound { card.quantity.0 ≤ 10_000_000 }
     requires lfb_bound { (gas.lfb ≤ 1_000_000) × (gas.df ≤ 200) }
     ensures { result ≡ gas_plan State.Refrigerated card gas }
 {
-    let containment = card.containment;
-    let quantity = card.quantity;
-    let plume = gas.plume;
-    let beyond = pool_area::beyond_dike(quantity, gas.df, containment);
-    if beyond {
-        let source = Source {
-            df: gas.df,
-            lf: gas.lfb,
-            tcf: 100,
-            shed: false,
-            endpoint: gas.endpoint,
-            plume,
-        };
-        Planned::Planned(pool(card, source))
-    } else {
-        Planned::Planned(vapor(card, gas.endpoint, plume))
+    if !pool_area::beyond_dike(card.quantity, gas.df, card.containment) {
+        return Some(vapor(card, gas.endpoint, gas.plume));
     }
+    let source = Source {
+        df: gas.df,
+        lf: gas.lfb,
+        tcf: 100,
+        shed: false,
+        endpoint: gas.endpoint,
+        plume: gas.plume,
+    };
+    Some(pool(card, source))
 }
 
-fn gas_plan(card: ToxicCard, gas: Gas) -> Planned
+fn gas_plan(card: ToxicCard, gas: Gas) -> Option<Scenario>
     requires quantity_bound { card.quantity.0 ≤ 10_000_000 }
     requires lfb_bound { (gas.lfb ≤ 1_000_000) × (gas.df ≤ 200) }
     ensures { result ≡ gas_plan card.state card gas }
 {
-    let state = card.state;
-    match state {
+    match card.state {
         State::Gas | State::Pressurized => freed(card, gas),
         State::Refrigerated => refrigerated(card, gas),
-        State::Liquid | State::Solution => Planned::Mismatch,
+        State::Liquid | State::Solution => None,
     }
 }
 
@@ -167,42 +141,30 @@ fn warmth(tenths: Tenths) -> Column
 }
 
 // A liquid's pool, with the factors of its temperature.
-fn spilled(card: ToxicCard, liquid: Liquid) -> Planned
+fn spilled(card: ToxicCard, liquid: Liquid) -> Option<Scenario>
     requires quantity_bound { card.quantity.0 ≤ 10_000_000 }
     requires within { Within (Toxic.OfLiquid liquid) }
     ensures { result ≡ liquid_plan State.Liquid card liquid }
 {
-    let containment = card.containment;
-    let plume = liquid.plume;
-    let tenths = card.tenths;
-    let column = warmth(tenths);
-    let found = factors::factors_at(liquid, column);
-    let shed = release::is_building(containment);
-    match found {
-        Factors::Read(lf, tcf) => {
-            let source = Source {
-                df: liquid.df,
-                lf,
-                tcf,
-                shed,
-                endpoint: liquid.endpoint,
-                plume,
-            };
-            Planned::Planned(pool(card, source))
-        }
-        Factors::Missing => Planned::Mismatch,
-    }
+    let (lf, tcf) = factors::factors_at(liquid, warmth(card.tenths))?;
+    let source = Source {
+        df: liquid.df,
+        lf,
+        tcf,
+        shed: release::is_building(card.containment),
+        endpoint: liquid.endpoint,
+        plume: liquid.plume,
+    };
+    Some(pool(card, source))
 }
 
-fn liquid_plan(card: ToxicCard, liquid: Liquid) -> Planned
+fn liquid_plan(card: ToxicCard, liquid: Liquid) -> Option<Scenario>
     requires quantity_bound { card.quantity.0 ≤ 10_000_000 }
     requires within { Within (Toxic.OfLiquid liquid) }
     ensures { result ≡ liquid_plan card.state card liquid }
 {
-    let state = card.state;
-    match state {
-        State::Gas | State::Pressurized | State::Refrigerated | State::Solution =>
-            Planned::Mismatch,
+    match card.state {
+        State::Gas | State::Pressurized | State::Refrigerated | State::Solution => None,
         State::Liquid => spilled(card, liquid),
     }
 }
@@ -211,35 +173,31 @@ fn liquid_plan(card: ToxicCard, liquid: Liquid) -> Planned
 const AT_25: u16 = 100;
 
 // A solution's pool, with the factors of the concentration that is read.
-fn dissolved(card: ToxicCard, solution: Solution) -> Planned
+fn dissolved(card: ToxicCard, solution: Solution) -> Option<Scenario>
     requires quantity_bound { card.quantity.0 ≤ 10_000_000 }
     requires lfa_bound { (solution.lfa ≤ 1_000_000) × (solution.df ≤ 200) }
     ensures { result ≡ solution_plan card solution }
 {
-    let containment = card.containment;
-    let plume = solution.plume;
     let source = Source {
         df: solution.df,
         lf: solution.lfa,
         tcf: AT_25,
-        shed: release::is_building(containment),
+        shed: release::is_building(card.containment),
         endpoint: solution.endpoint,
-        plume,
+        plume: solution.plume,
     };
-    Planned::Planned(pool(card, source))
+    Some(pool(card, source))
 }
 
 // The scenario of a toxic card, or that its state, containment or exhibit allows none.
-pub fn plan(card: ToxicCard) -> Planned
+pub fn plan(card: ToxicCard) -> Option<Scenario>
     requires { Limits card }
     ensures { result ≡ plan_of card }
 {
-    let entry = card.entry;
-    match entry {
+    match card.entry {
         Toxic::OfGas(gas) => gas_plan(card, gas),
         Toxic::OfLiquid(liquid) => liquid_plan(card, liquid),
         Toxic::OfSolution(solution) => dissolved(card, solution),
-        Toxic::OutOfRange => Planned::Mismatch,
-        Toxic::NotListed => Planned::Mismatch,
+        Toxic::OutOfRange | Toxic::NotListed => None,
     }
 }

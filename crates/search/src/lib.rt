@@ -9,12 +9,5 @@ ghost use Rattle.search.specs.Rising.{first_at_least};
 pub fn first_at_least(a: &[u64], x: u64) -> usize
     ensures { result ≡ first_at_least x a.now }
 {
-    let mut i = 0;
-    while i < a.len() {
-        if x <= a[i] {
-            return i;
-        }
-        i += 1;
-    }
-    i
+    a.iter().position(|&entry| x <= entry).unwrap_or(a.len())
 }

@@ -9,14 +9,7 @@ fn start_of(field: &[u8]) -> usize
     ensures field_value { drop result field.now ≡ skip field.now }
     ensures upper_bound { result ≤ length field.now }
 {
-    let mut start = 0usize;
-    while start < field.len() {
-        if field[start] != b' ' {
-            return start;
-        }
-        start += 1;
-    }
-    start
+    field.iter().position(|&b| b != b' ').unwrap_or(field.len())
 }
 
 // Where the bytes from a start on end, before the spaces behind.
@@ -26,14 +19,8 @@ fn end_of(field: &[u8], start: usize) -> usize
     ensures lower_bound { start ≤ result }
     ensures upper_bound { result ≤ length field.now }
 {
-    let mut end = field.len();
-    while start < end {
-        if field[end - 1] != b' ' {
-            return end;
-        }
-        end -= 1;
-    }
-    end
+    let last = field[start..].iter().rposition(|&b| b != b' ');
+    last.map_or(start, |last| start + last + 1)
 }
 
 // A field without the spaces around it.

@@ -1,7 +1,7 @@
 -- What acceptance says of a register: what stands in its header, that the writer takes it, and that none of its cards' meanings
 -- is a refusal.
 -- Assumes nothing.
-use Rattle.std.specs.Prelude.{ℕ, zero, suc, ◌+◌, ◌*◌, ◌≤◌, ◌≡◌, refl, List, [], ◌∷◌, ltb, length, take, drop}
+use Rattle.std.specs.Prelude.{ℕ, zero, suc, ◌+◌, ◌*◌, ◌≤◌, ◌≡◌, refl, List, [], ◌∷◌, ltb, length, take, drop, Result, Ok, Err}
 use Rattle.std.proofs.Common.{arith, subst, ltb-false, eqb-true}
 use Rattle.std.proofs.lemmas.Bool.{not-false}
 use Rattle.search.specs.Laws.{clash}
@@ -13,14 +13,9 @@ use Rattle.refusals.specs.declared.Refusal.{Refusal}
 use Rattle.meaning.specs.declared.Meaning.TheVariants as meaning
 use Rattle.meaning.specs.Reading.{meaning_of}
 use Rattle.card.specs.declared.Answer.{Answer}
-use Rattle.card.specs.declared.Answered.{Answered}
-use Rattle.card.specs.declared.Answered.TheVariants as answered
 use Rattle.card.specs.Answers.{answer_of}
 use Rattle.card.specs.Number.{answer_number}
-use Rattle.header.specs.declared.Header.{Header}
-use Rattle.header.specs.declared.Header.TheVariants as header
 use Rattle.header.specs.Header.{enough, count_of, bad_length, bad_version, bad_count, header_of}
-use Rattle.walk.specs.declared.Outcome.TheVariants as outcome
 use Rattle.cards.specs.Register.{answers, then, cards_from, after_header, outcome_of}
 use Rattle.cards.proofs.Laws.{joined_is}
 use Rattle.ordering.proofs.Found.{Checked, checked, any_room, found}
@@ -54,12 +49,12 @@ pub headed : (register : List ℕ) → Accepted register → Headed register
 unfolding outcome_of
 headed register (buffer, leaders, e) = go (header_of register (length buffer)) refl e
   where
-    go : (h : Header) → header_of register (length buffer) ≡ h → after_header h register ≡ outcome.Accepted leaders → Headed register
-    go (header.Good n) p q = checked_headed register (length buffer) n (checked register (length buffer) n p)
-    go (header.Refused r) p q = clash (cc)
+    go : (h : Result ℕ Refusal) → header_of register (length buffer) ≡ h → after_header h register ≡ Ok leaders → Headed register
+    go (Ok n) p q = checked_headed register (length buffer) n (checked register (length buffer) n p)
+    go (Err r) p q = clash (cc)
 
 -- the writer, who is lent no answer buffer, takes it
-pub taken : (register : List ℕ) (a : Accepted register) → outcome_of register enough ≡ outcome.Accepted a.1
+pub taken : (register : List ℕ) (a : Accepted register) → outcome_of register enough ≡ Ok a.1
 taken register a = any_room register (length a.0) enough a.2 (omega (arith, (headed register a).few))
 
 -- ---- the cards
@@ -67,10 +62,10 @@ taken register a = any_room register (length a.0) enough a.2 (omega (arith, (hea
 -- each of these cards has a meaning, read after the last one's number
 abbrev pub AllMean : ℕ → List Fields → Type 0
 AllMean last [] = Unit {0}
-AllMean last (f ∷ rest) = ((r : Refusal) → meaning_of f last ≡ meaning.Refused r → ⊥) × AllMean f.number rest
+AllMean last (f ∷ rest) = ((r : Refusal) → meaning_of f last ≡ Err r → ⊥) × AllMean f.number rest
 
 -- a card that is answered has one
-answered_means : (card : List ℕ) (last : ℕ) {a : Answer} → answer_of card last ≡ answered.Is a → (r : Refusal) → meaning_of (fields_of card) last ≡ meaning.Refused r → ⊥
+answered_means : (card : List ℕ) (last : ℕ) {a : Answer} → answer_of card last ≡ Ok a → (r : Refusal) → meaning_of (fields_of card) last ≡ Err r → ⊥
 unfolding answer_of
 answered_means card last e r m = clash (cc)
 
@@ -81,16 +76,16 @@ answers_mean zero place last bytes xs e = tt
 answers_mean (suc n) place last bytes xs e =
     go (answer_of (take 24 bytes) last) refl (λ k ys. answers_mean n (suc place) k (drop 24 bytes) ys) e
   where
-    go : (x : Answered) → answer_of (take 24 bytes) last ≡ x
+    go : (x : Result Answer Refusal) → answer_of (take 24 bytes) last ≡ x
         → ((k : ℕ) (ys : List Answer) → cards_from n (suc place) k (drop 24 bytes) ≡ answers ys → AllMean k (fields_from n (drop 24 bytes)))
         → then x place (λ k. cards_from n (suc place) k (drop 24 bytes)) ≡ answers xs
         → AllMean last (fields_of (take 24 bytes) ∷ fields_from n (drop 24 bytes))
-    go (answered.Is a) p ih q =
+    go (Ok a) p ih q =
         let j = joined_is a (cards_from n (suc place) a.number (drop 24 bytes)) q in (
           answered_means (take 24 bytes) last p,
           subst (λ k. AllMean k (fields_from n (drop 24 bytes))) (answer_number (take 24 bytes) last p) (ih a.number j.0 j.1),
         )
-    go (answered.Refused r) p ih q = clash (cc)
+    go (Err r) p ih q = clash (cc)
 
 -- and those of an accepted register
 pub all_mean : (register : List ℕ) → Accepted register → AllMean 0 (fields_of_register register)

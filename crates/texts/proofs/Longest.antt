@@ -1,6 +1,7 @@
 -- The longest strict line of an accepted register has 59 bytes with its line feed (`Claim.antt`).
 -- Assumes nothing.
-use Rattle.std.specs.Prelude.{ℕ, ◌*◌, ◌-◌, ◌^◌, ◌≤◌, ◌<◌, ◌≡◌, refl, List, [], ◌∷◌, ◌⊎◌, ltb, length, drop, replicate}
+use Rattle.std.specs.Prelude.{ℕ, ◌*◌, ◌-◌, ◌^◌, ◌≤◌, ◌<◌, ◌≡◌, refl, List, [], ◌∷◌, ◌⊎◌, ltb, length, drop, replicate, Some, None}
+use Rattle.farthest.specs.Farthest.{leader}
 use Rattle.std.proofs.Common.{arith, inl, inr, length-append, ltb-true}
 use Rattle.search.specs.Places.{look_up}
 use Rattle.search.specs.PlaceLaws.{every_at}
@@ -25,7 +26,6 @@ use Rattle.ranges.specs.Ranges.{bad_pounds, bad_area, bad_wall, signed, bad_heat
 use Rattle.meaning.specs.Reading.{bad_number, substance_of, toxic_meaning, meaning_of}
 use Rattle.meaning.specs.Ranges.{Ranged, ranged}
 use Rattle.card.specs.Answers.{answer_of}
-use Rattle.farthest.specs.declared.Farthest.TheVariants as farthest
 use Rattle.farthest.specs.Farthest.{leaders_after, leaders_from, leaders_of}
 use Rattle.header.specs.Header.{count_of, bad_length, bad_version, bad_count, bad_buffer, header_of}
 use Rattle.cards.specs.Register.{cards_from, cards_of, outcome_of}
@@ -123,7 +123,7 @@ widest_bytes i = ltb-true _ 256 (every_at (λ b. ltb b 256) widest 0 refl refl i
 widest_accepted : Accepted widest
 unfolding widest outcome_of header_of bad_length bad_version bad_count bad_buffer cards_of cards_from answer_of fields_of meaning_of bad_number shape_of state_of ground_of held_of toxic_meaning substance_of tenths_of toxic_of look_up b1 b2 bounds_of bad_pounds bad_area bad_wall bad_heat signed plan_of pool_of table_of column_of at_most_ten_minutes diked_area pool_rate reading_of read_in tables answered apart by_row closest closest_column closest_from closest_row distance from_column in_use larger largest last_of smaller thousandths leaders_of leaders_from leaders_after
 widest_accepted =
-    (replicate 16 0, record { toxic = farthest.Card 4_294_967_295 (record { 0 = 2_500 }); flammable = farthest.None }, refl)
+    (replicate 16 0, record { toxic = Some (leader 4_294_967_295 (record { 0 = 2_500 })); flammable = None }, refl)
 
 pub reached : Reached
 unfolding widest strict_text fields_of_register fields_from fields_of strict_lines strict_line field_texts closed cas_text heat_text tenths_text digits padded

@@ -1,12 +1,12 @@
 -- The theorems of request A1 over the reader and the writer (`Claim.antt`).
 -- Assumes nothing.
-use Rattle.std.specs.Prelude.{ℕ, ◌≤◌, ◌≡◌, Bool, true, false, List, ◌++◌, ltb, length, take, drop}
+use Rattle.std.specs.Prelude.{ℕ, ◌≤◌, ◌≡◌, Bool, true, false, List, ◌++◌, ltb, length, take, drop, Result, Ok, Err}
+use Rattle.refusals.specs.declared.SentBack.{SentBack}
+use Rattle.refusals.specs.Numbers.{refused_at}
 use Rattle.std.proofs.Common.{sym, ap, ◌∙◌, le-ltb}
 use Rattle.std.proofs.Math.Seq.{take-append_seam}
 use Rattle.search.specs.Laws.{clash}
 use Rattle.refusals.specs.declared.Refusal.TheVariants as refusal
-use Rattle.comma.specs.declared.Converted.{Converted}
-use Rattle.comma.specs.declared.Converted.TheVariants as converted
 use Rattle.comma.specs.Strict.{strict_lines}
 use Rattle.comma.proofs.StrictLaws.{text_written, cards_same, strict_same}
 use Rattle.write_lines.specs.Writing.{fields_of_register, strict_text, answer_as, writing_of, written_as, write_into}
@@ -28,7 +28,7 @@ unfolding strict_text
 strict_read register t = record { same = text_written (fields_of_register register) t.fit; told = t }
 
 -- what the writer writes where it answers a number of bytes is the strict text
-written : (register out : List ℕ) (n : ℕ) → Accepted register → writing_of register (length out) ≡ converted.Bytes n
+written : (register out : List ℕ) (n : ℕ) → Accepted register → writing_of register (length out) ≡ Ok n
     → take n (write_into register out) ≡ strict_text register
 unfolding writing_of write_into
 written register out n a e =
@@ -38,14 +38,14 @@ written register out n a e =
     text : List ℕ
     text = strict_text register
 
-    go : (b : Bool) → (elim b as (λ _. Converted) [ true ↦ converted.Refused refusal.Room 0 | false ↦ converted.Bytes (length text) ]) ≡ converted.Bytes n
+    go : (b : Bool) → (elim b as (λ _. Result ℕ (SentBack ℕ)) [ true ↦ Err (refused_at refusal.Room 0) | false ↦ Ok (length text) ]) ≡ Ok n
         → take n (elim b as (λ _. List ℕ) [ true ↦ out | false ↦ text ++ drop (length text) out ]) ≡ text
     go true q = clash (cc)
     go false q = rw (← bytes_are q) (take-append_seam text (drop (length text) out))
 
 -- and it answers one wherever there is room
 writes : (register out : List ℕ) → Accepted register → length (strict_text register) ≤ length out
-    → writing_of register (length out) ≡ converted.Bytes (length (strict_text register))
+    → writing_of register (length out) ≡ Ok (length (strict_text register))
 unfolding writing_of
 writes register out a h = rw (taken register a, le-ltb (length out) (length (strict_text register)) h, answer_as)
 

@@ -1,7 +1,9 @@
 -- A register that its cards tell: it is the register of the cards in it. An accepted register of bytes is one, and so is whatever
 -- a text reads into.
 -- Assumes nothing.
-use Rattle.std.specs.Prelude.{ℕ, ◌≤◌, ◌≡◌, refl, Bool, true, false, List, ◌++◌, ltb, length, take, drop}
+use Rattle.std.specs.Prelude.{ℕ, ◌≤◌, ◌≡◌, refl, Bool, true, false, List, ◌++◌, ltb, length, take, drop, Result, Ok, Err}
+use Rattle.refusals.specs.declared.SentBack.{SentBack}
+use Rattle.refusals.specs.Numbers.{refused_at}
 use Rattle.std.proofs.Common.{arith, sym, ap, subst, ◌∙◌, ltb-false, le-ltb}
 use Rattle.std.proofs.Math.Seq.{take-append_seam}
 use Rattle.search.specs.Laws.{clash}
@@ -9,8 +11,6 @@ use Rattle.search.specs.PlaceLaws.{neither}
 use Rattle.fields.specs.declared.Fields.{Fields}
 use Rattle.refusals.specs.declared.Refusal.TheVariants as refusal
 use Rattle.header.specs.Header.{count_of}
-use Rattle.comma.specs.declared.Converted.{Converted}
-use Rattle.comma.specs.declared.Converted.TheVariants as converted
 use Rattle.comma.specs.Text.{Cards, cards, bad, cards_in, size_of, register_of, bad_room, read_as, reading_of, filled_with, read_into}
 use Rattle.comma.specs.Strict.{fields_from}
 use Rattle.comma.proofs.StrictLaws.{AllFitting, text_fitting}
@@ -61,17 +61,17 @@ room_enough : (count room : ℕ) → count ≤ 2_000 → size_of count ≤ room 
 unfolding bad_room
 room_enough count room few h = rw (le-ltb 2_000 count few, le-ltb room (size_of count) h)
 
-pub bytes_are : {m n : ℕ} → converted.Bytes m ≡ converted.Bytes n → m ≡ n
+pub bytes_are : {m n : ℕ} → Ok m ≡ Ok n → m ≡ n
 bytes_are e = cc
 
 -- by what the text comes to
-read_from_lem : (text register out : List ℕ) (n : ℕ) (c : Cards) → cards_in text ≡ c → read_as c (length out) ≡ converted.Bytes n
+read_from_lem : (text register out : List ℕ) (n : ℕ) (c : Cards) → cards_in text ≡ c → read_as c (length out) ≡ Ok n
     → take n (filled_with c out) ≡ register → Read text register
 read_from_lem text register out n (bad k) p a w = clash (cc)
 read_from_lem text register out n (cards xs) p a w = go (bad_room (length xs) (length out)) refl a w
   where
     go : (b : Bool) → bad_room (length xs) (length out) ≡ b
-        → (elim b as (λ _. Converted) [ true ↦ converted.Refused refusal.Room 0 | false ↦ converted.Bytes (size_of (length xs)) ]) ≡ converted.Bytes n
+        → (elim b as (λ _. Result ℕ (SentBack ℕ)) [ true ↦ Err (refused_at refusal.Room 0) | false ↦ Ok (size_of (length xs)) ]) ≡ Ok n
         → take n (elim b as (λ _. List ℕ) [ true ↦ out | false ↦ register_of xs ++ drop (size_of (length xs)) out ]) ≡ register
         → Read text register
     go true q a w = clash (cc)

@@ -2,14 +2,14 @@
 -- are `read_alike`, `round_trip`, `same_forms`, `same_bytes` and `strict_again` of `Texts`, and `longest` and `reached` of
 -- `Longest`.
 -- Assumes nothing.
-use Rattle.std.specs.Prelude.{ℕ, ◌*◌, ◌≤◌, ◌≡◌, List, [], ◌∷◌, ◌++◌, ◌↔◌, length, take, drop}
+use Rattle.std.specs.Prelude.{ℕ, ◌*◌, ◌≤◌, ◌≡◌, List, [], ◌∷◌, ◌++◌, ◌↔◌, length, take, drop, Result, Ok}
+use Rattle.refusals.specs.declared.Refusal.{Refusal}
 use Rattle.fields.specs.declared.Fields.{Fields}
 use Rattle.meaning.specs.declared.Meaning.{Meaning}
 use Rattle.meaning.specs.Reading.{meaning_of}
 use Rattle.farthest.specs.declared.Leaders.{Leaders}
 use Rattle.header.specs.Header.{count_of}
 use Rattle.ordering.specs.Claim.{Accepts}
-use Rattle.comma.specs.declared.Converted.TheVariants as converted
 use Rattle.comma.specs.Text.{reading_of, read_into}
 use Rattle.comma.specs.CardLaws.{AllBytes}
 use Rattle.write_lines.specs.Writing.{fields_of_register, strict_text, writing_of, write_into}
@@ -23,7 +23,7 @@ Accepted register = (buffer : List ℕ) × (leaders : Leaders) × Accepts regist
 pub record Reads (text register : List ℕ) : Type 0 where
   pub out : List ℕ
   pub size : ℕ
-  pub told : reading_of text (length out) ≡ converted.Bytes size
+  pub told : reading_of text (length out) ≡ Ok size
   pub bytes : take size (read_into text out) ≡ register
 
 -- With every lent buffer that is long enough the reader writes this register's bytes and says how many they are; "bytes of a
@@ -31,7 +31,7 @@ pub record Reads (text register : List ℕ) : Type 0 where
 abbrev pub ReadsInto : List ℕ → List ℕ → Type 0
 ReadsInto text register =
     (out : List ℕ) → length register ≤ length out
-    → (reading_of text (length out) ≡ converted.Bytes (length register))
+    → (reading_of text (length out) ≡ Ok (length register))
     × (read_into text out ≡ register ++ drop (length register) out)
 
 -- What one buffer shows holds with every buffer that is long enough.
@@ -41,10 +41,10 @@ ReadAlike = (text register : List ℕ) → Reads text register → ReadsInto tex
 -- "Reading what was written gives the same register": whatever number of bytes the writer says that it wrote into a lent buffer,
 -- those bytes read into the register; and it does write where the strict text has room.
 pub record ReadAgain (register : List ℕ) : Type 0 where
-  pub same : (out : List ℕ) (n : ℕ) → writing_of register (length out) ≡ converted.Bytes n
+  pub same : (out : List ℕ) (n : ℕ) → writing_of register (length out) ≡ Ok n
       → ReadsInto (take n (write_into register out)) register
   pub written : (out : List ℕ) → length (strict_text register) ≤ length out
-      → writing_of register (length out) ≡ converted.Bytes (length (strict_text register))
+      → writing_of register (length out) ≡ Ok (length (strict_text register))
 
 -- so for every accepted register; its bytes are bytes, each below 256
 abbrev pub RoundTrip : Type 0
@@ -52,7 +52,7 @@ RoundTrip = (register : List ℕ) → AllBytes register → Accepted register �
 
 -- what a card says: its meaning by document 01, and its number
 pub record Meant : Type 0 where
-  pub meaning : Meaning
+  pub meaning : Result Meaning Refusal
   pub number : ℕ
 
 -- cards in turn, each after the last one's number

@@ -5,8 +5,7 @@
 
 ghost use Rattle.std.specs.Prelude.{◌≡◌, ◌≤◌, ◌<◌, length};
 
-use listing::Listed;
-use register::Outcome;
+use refusals::SentBack;
 use std::io::Read;
 
 // Prints bytes. What cannot be written is missed where the output is compared.
@@ -16,8 +15,7 @@ fn put(out: &impl Print, bytes: &[u8]) {
 
 // The listing of a register.
 fn list(out: &impl Print, register: &[u8], text: &mut [u8]) {
-    let listed = listing::list(register, text);
-    let Listed::Text(end) = listed else {
+    let Some(end) = listing::list(register, text) else {
         put(out, b"no room\n");
         return;
     };
@@ -31,7 +29,7 @@ fn fill(out: &impl Print, register: &[u8], room: usize, text: &mut [u8]) {
         return;
     }
     let outcome = register::fill(register, &mut text[..room]);
-    let Outcome::Refused(refusal, place) = outcome else {
+    let Err(SentBack { refusal, place }) = outcome else {
         put(out, b"accepted\n");
         return;
     };
@@ -106,21 +104,9 @@ fn read_and_run(out: &impl Print, reader: &mut impl Read, cases: &mut [u8], text
     run_all(out, &cases[..n], text);
 }
 
-fn cases_buffer() -> [u8; 262_144]
-    ensures { 262_144 ≡ length result }
-{
-    [0; 262_144]
-}
-
-// Room for every listing.
-fn text_buffer() -> [u8; 256_256]
-    ensures { 256_256 ≡ length result }
-{
-    [0; 256_256]
-}
-
+// The text has room for every listing.
 fn main(rt: HostRuntime) {
-    let mut cases = cases_buffer();
-    let mut text = text_buffer();
+    let mut cases = [0; 262_144];
+    let mut text = [0; 256_256];
     read_and_run(&rt, &mut rt.stdin(), &mut cases, &mut text);
 }

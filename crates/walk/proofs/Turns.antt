@@ -1,6 +1,9 @@
 -- What is written of a card, and the walk: its start, one turn and its ends. At every place what is left of the walk, from
 -- the running values, comes to the whole walk, and so does what is left to write; each law carries that on.
 -- Assumes nothing.
+use Rattle.std.specs.Prelude.{Result, Ok, Err}
+use Rattle.refusals.specs.declared.SentBack.{SentBack}
+use Rattle.refusals.specs.Numbers.{refused_at}
 use Prim.Native.Nat.{ℕ, suc, ◌+◌, ◌-◌, ◌*◌, ◌≤◌, ◌<◌, zero-le}
 use native.Mathlib.Omega.{arith}
 use native.Mathlib.Nat.{sub-zero, mul-suc, mul-le-mul_left}
@@ -16,15 +19,10 @@ use Rattle.encode.specs.Bytes.{answer_bytes}
 use Rattle.encode.specs.Laws.{length_answer}
 use Rattle.lines.specs.Lines.{card_line}
 use Rattle.running.specs.declared.Running.{Running}
-use Rattle.running.specs.declared.Stepped.{Stepped}
-use Rattle.running.specs.declared.Stepped.TheVariants as stepped
 use Rattle.running.specs.Running.{before_cards, step_of}
 use Rattle.running.proofs.Laws.{on_place}
-use Rattle.walk.specs.declared.Walked.{Walked}
-use Rattle.walk.specs.declared.Walked.TheVariants as walked
 use Rattle.walk.specs.declared.Writes.{Writes}
 use Rattle.walk.specs.declared.Writes.TheVariants as writes
-use Rattle.walk.specs.declared.Outcome.TheVariants as outcome
 use Rattle.walk.specs.Walk.{text_of, most_of, go_on, walk_from, write_on, text_from, end_of}
 
 -- ---- what is written of a card
@@ -56,7 +54,7 @@ module _ (w : Writes) (at : ℕ) where
 
 module _ (cards : List ℕ) (to : ℕ) (w : Writes) where
   -- what is left of the walk from running values and a position on
-  abbrev pub Left : Running → ℕ → Walked
+  abbrev pub Left : Running → ℕ → Result (Running × ℕ) (SentBack ℕ)
   Left s at = walk_from w (to - s.place) s at (drop (24 * s.place) cards)
 
   -- and what is left to write
@@ -67,7 +65,7 @@ module _ (cards : List ℕ) (to : ℕ) (w : Writes) where
   pub room : (at place : ℕ) (out out₀ : List ℕ) → place < to → at ≤ most_of w * place → length out ≡ length out₀ → most_of w * to ≤ length out₀ → at + most_of w ≤ length out
   room at place out out₀ h k l m = omega (arith, mul-suc (most_of w) place, mul-le-mul_left (most_of w) h)
 
-  module _ (s : Running) (h : s.place < to) (x : Stepped) (e : x ≡ step_of s (take 24 (drop (24 * s.place) cards))) where
+  module _ (s : Running) (h : s.place < to) (x : Result (Running × Answer) (SentBack ℕ)) (e : x ≡ step_of s (take 24 (drop (24 * s.place) cards))) where
     left : to - s.place ≡ suc (to - suc s.place)
     left = omega arith
 
@@ -77,26 +75,26 @@ module _ (cards : List ℕ) (to : ℕ) (w : Writes) where
         drop-drop 24 (24 * s.place) cards ∙ ap (λ n. drop n cards) z
 
     -- what the walk comes to behind the card, and what it writes of the card and behind it
-    abbrev Onward : ℕ → Running → Answer → Walked
+    abbrev Onward : ℕ → Running → Answer → Result (Running × ℕ) (SentBack ℕ)
     Onward at t a = walk_from w (to - suc s.place) t (at + length (text_of w a)) (drop (24 * suc s.place) cards)
 
     abbrev Written : Running → Answer → List ℕ
     Written t a = text_of w a ++ text_from w (to - suc s.place) t (drop (24 * suc s.place) cards)
 
-    left_is : (at : ℕ) (y : Stepped) → x ≡ y → Left s at ≡ go_on y (Onward at)
+    left_is : (at : ℕ) (y : Result (Running × Answer) (SentBack ℕ)) → x ≡ y → Left s at ≡ go_on y (Onward at)
     unfolding walk_from
     left_is at y q =
         ap (λ n. walk_from w n s at (drop (24 * s.place) cards)) left
         ∙ ap₂ (λ z rest. go_on z (λ t a. walk_from w (to - suc s.place) t (at + length (text_of w a)) rest)) (sym e ∙ q) next
 
-    unwritten_is : (y : Stepped) → x ≡ y → Unwritten s ≡ write_on y Written
+    unwritten_is : (y : Result (Running × Answer) (SentBack ℕ)) → x ≡ y → Unwritten s ≡ write_on y Written
     unfolding text_from
     unwritten_is y q =
         ap (λ n. text_from w n s (drop (24 * s.place) cards)) left
         ∙ ap₂ (λ z rest. write_on z (λ t a. text_of w a ++ text_from w (to - suc s.place) t rest)) (sym e ∙ q) next
 
     -- a card that is answered: the walk goes on from the next place
-    module _ (t : Running) (a : Answer) (q : x ≡ stepped.On t a) where
+    module _ (t : Running) (a : Answer) (q : x ≡ Ok (t, a)) where
       place_is : t.place ≡ suc s.place
       place_is = on_place s t a (take 24 (drop (24 * s.place) cards)) (sym e ∙ q)
 
@@ -109,10 +107,10 @@ module _ (cards : List ℕ) (to : ℕ) (w : Writes) where
       pub turn_at : (at n : ℕ) → at ≤ most_of w * s.place → n ≤ at + most_of w → n ≤ most_of w * t.place
       turn_at at n k m = rw place_is (omega (arith, mul-suc (most_of w) s.place))
 
-      pub turn_left : {out after : List ℕ} {at n : ℕ} (whole : Walked) → Wrote out after at n (text_of w a) → Left s at ≡ whole → Left t n ≡ whole
+      pub turn_left : {out after : List ℕ} {at n : ℕ} (whole : Result (Running × ℕ) (SentBack ℕ)) → Wrote out after at n (text_of w a) → Left s at ≡ whole → Left t n ≡ whole
       turn_left {at = at} whole p k =
           ap₂ (λ m i. walk_from w (to - i) t m (drop (24 * i) cards)) p.place place_is
-          ∙ (sym (left_is at (stepped.On t a) q) ∙ k)
+          ∙ (sym (left_is at (Ok (t, a)) q) ∙ k)
 
       pub turn_written : {out after : List ℕ} {at n : ℕ} (whole : List ℕ) → Wrote out after at n (text_of w a) → sets out at (Unwritten s) ≡ whole → sets after n (Unwritten t) ≡ whole
       turn_written {out} {after} {at} {n} whole p k =
@@ -120,18 +118,18 @@ module _ (cards : List ℕ) (to : ℕ) (w : Writes) where
           ap (λ i. sets after n (text_from w (to - i) t (drop (24 * i) cards))) place_is
           ∙ (ap₂ (λ b m. sets b m rest) p.bytes p.place
           ∙ (sets_append (text_of w a) rest out at
-          ∙ (ap (sets out at) (sym (unwritten_is (stepped.On t a) q)) ∙ k)))
+          ∙ (ap (sets out at) (sym (unwritten_is (Ok (t, a)) q)) ∙ k)))
 
     -- a card that is refused: the walk ends there, and nothing more is written
-    module _ (r : Refusal) (p : ℕ) (q : x ≡ stepped.Refused r p) where
-      pub refused_left : (at : ℕ) (whole : Walked) → Left s at ≡ whole → walked.Refused r p ≡ whole
-      refused_left at whole k = sym (left_is at (stepped.Refused r p) q) ∙ k
+    module _ (r : Refusal) (p : ℕ) (q : x ≡ Err (refused_at r p)) where
+      pub refused_left : (at : ℕ) (whole : Result (Running × ℕ) (SentBack ℕ)) → Left s at ≡ whole → Err (refused_at r p) ≡ whole
+      refused_left at whole k = sym (left_is at (Err (refused_at r p)) q) ∙ k
 
       pub refused_written : (out : List ℕ) (at : ℕ) (whole : List ℕ) → sets out at (Unwritten s) ≡ whole → out ≡ whole
-      refused_written out at whole k = ap (sets out at) (sym (unwritten_is (stepped.Refused r p) q)) ∙ k
+      refused_written out at whole k = ap (sets out at) (sym (unwritten_is (Err (refused_at r p)) q)) ∙ k
 
   -- no card is left
-  pub end_left : (s : Running) (at : ℕ) (whole : Walked) → to ≤ s.place → Left s at ≡ whole → walked.On s at ≡ whole
+  pub end_left : (s : Running) (at : ℕ) (whole : Result (Running × ℕ) (SentBack ℕ)) → to ≤ s.place → Left s at ≡ whole → Ok (s, at) ≡ whole
   unfolding walk_from
   end_left s at whole h k =
       ap (λ n. walk_from w n s at (drop (24 * s.place) cards)) (let z : 0 ≡ to - s.place = omega arith in z) ∙ k
@@ -150,7 +148,7 @@ module _ (s : Running) (e : s ≡ before_cards) where
   pub start_place : (n : ℕ) → s.place ≤ n
   start_place n = rw e zero-le
 
-  pub start_walk : (x : Walked) (w : Writes) (n : ℕ) (cards : List ℕ) → x ≡ walk_from w (n - s.place) s 0 (drop (24 * s.place) cards) → x ≡ walk_from w n before_cards 0 cards
+  pub start_walk : (x : Result (Running × ℕ) (SentBack ℕ)) (w : Writes) (n : ℕ) (cards : List ℕ) → x ≡ walk_from w (n - s.place) s 0 (drop (24 * s.place) cards) → x ≡ walk_from w n before_cards 0 cards
   start_walk x w n cards g =
       g ∙ (ap (λ (t : Running). walk_from w (n - t.place) t 0 (drop (24 * t.place) cards)) e ∙ ap (λ m. walk_from w m before_cards 0 cards) (sub-zero n))
 
@@ -160,8 +158,8 @@ module _ (s : Running) (e : s ≡ before_cards) where
 
 -- ---- the end of a walk as a call's answer
 
-pub ended_on : (x : Walked) (s : Running) (n : ℕ) → x ≡ walked.On s n → outcome.Accepted s.leaders ≡ end_of x
+pub ended_on : (x : Result (Running × ℕ) (SentBack ℕ)) (s : Running) (n : ℕ) → x ≡ Ok (s, n) → Ok s.leaders ≡ end_of x
 ended_on x s n e = ap end_of (sym e)
 
-pub ended_refused : (x : Walked) (r : Refusal) (p : ℕ) → x ≡ walked.Refused r p → outcome.Refused r p ≡ end_of x
+pub ended_refused : (x : Result (Running × ℕ) (SentBack ℕ)) (r : Refusal) (p : ℕ) → x ≡ Err (refused_at r p) → Err (refused_at r p) ≡ end_of x
 ended_refused x r p e = ap end_of (sym e)

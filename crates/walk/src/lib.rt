@@ -10,15 +10,8 @@ ghost use Rattle.walk.specs.Walk.{text_of, most_of, walk_from, text_from, end_of
 
 use card::Answer;
 use farthest::Leaders;
-use refusals::Refusal;
-use running::{Running, Stepped};
-
-// What a call answers: both classes' farthest, or a refusal and the place of its card.
-#[derive(Clone, Copy)]
-pub enum Outcome {
-    Accepted(Leaders),
-    Refused(Refusal, u32),
-}
+use refusals::SentBack;
+use running::Running;
 
 // What a walk writes of each card: nothing, its sixteen bytes of the answer buffer, or its line of a listing.
 #[derive(Clone, Copy)]
@@ -26,13 +19,6 @@ pub enum Writes {
     Nothing,
     Answers,
     Lines,
-}
-
-// The end of a walk: the running values where it was to end, and how many bytes were written; or the refusal it stopped at.
-#[derive(Clone, Copy)]
-pub enum Walked {
-    On(Running, usize),
-    Refused(Refusal, u32),
 }
 
 // What is to be written of a card, and the place behind it.
@@ -51,8 +37,15 @@ fn put(writes: Writes, out: &mut [u8], at: usize, answer: Answer) -> usize
     }
 }
 
-// The walk, from the running values on up to a place. It stops at the first card that is refused.
-pub fn along(cards: &[u8], from: Running, to: usize, writes: Writes, out: &mut [u8]) -> Walked
+// The walk, from the running values on up to a place: the running values there, and how many bytes were written. It stops at the
+// first card that is refused.
+pub fn along(
+    cards: &[u8],
+    from: Running,
+    to: usize,
+    writes: Writes,
+    out: &mut [u8],
+) -> Result<(Running, usize), SentBack<u32>>
     requires { (to ≤ 2000) × (24 * to ≤ length cards.now) × (from.place ≤ to) × (most_of writes * to ≤ length out.old) }
     ensures value { result ≡ walk_from writes (to - from.place) from 0 (drop (24 * from.place) cards.now) }
     ensures out_after { out.new ≡ sets out.old 0 (text_from writes (to - from.place) from (drop (24 * from.place) cards.now)) }
@@ -61,22 +54,20 @@ pub fn along(cards: &[u8], from: Running, to: usize, writes: Writes, out: &mut [
     let mut running = from;
     let mut at = 0usize;
     while running.place < to {
-        let stepped = running::step_at(cards, running);
-        match stepped {
-            Stepped::On(next, answer) => {
-                at = put(writes, out, at, answer);
-                running = next;
-            }
-            Stepped::Refused(refusal, place) => {
-                return Walked::Refused(refusal, place);
-            }
-        }
+        let (next, answer) = running::step_at(cards, running)?;
+        at = put(writes, out, at, answer);
+        running = next;
     }
-    Walked::On(running, at)
+    Ok((running, at))
 }
 
 // The walk through all cards of a register.
-pub fn through(cards: &[u8], count: usize, writes: Writes, out: &mut [u8]) -> Walked
+pub fn through(
+    cards: &[u8],
+    count: usize,
+    writes: Writes,
+    out: &mut [u8],
+) -> Result<(Running, usize), SentBack<u32>>
     requires { (count ≤ 2000) × (24 * count ≤ length cards.now) × (most_of writes * count ≤ length out.old) }
     ensures value { result ≡ walk_from writes count before_cards 0 cards.now }
     ensures out_after { out.new ≡ sets out.old 0 (text_from writes count before_cards cards.now) }
@@ -85,15 +76,10 @@ pub fn through(cards: &[u8], count: usize, writes: Writes, out: &mut [u8]) -> Wa
     along(cards, running::start(), count, writes, out)
 }
 
-// The end of a walk through all cards as a call's answer.
-pub fn outcome_of(walked: Walked) -> Outcome
+// The end of a walk through all cards as a call's answer: both classes' farthest.
+pub fn outcome_of(walked: Result<(Running, usize), SentBack<u32>>) -> Result<Leaders, SentBack<u32>>
     ensures { result ≡ end_of walked }
 {
-    match walked {
-        Walked::On(running, _) => {
-            let leaders = running.leaders;
-            Outcome::Accepted(leaders)
-        }
-        Walked::Refused(refusal, place) => Outcome::Refused(refusal, place),
-    }
+    let (running, _) = walked?;
+    Ok(running.leaders)
 }

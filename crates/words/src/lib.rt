@@ -5,22 +5,17 @@ ghost use Rattle.std.specs.Prelude.{◌≡◌};
 ghost use Rattle.card.specs.declared.Class.TheVariants.{Toxic, Flammable};
 ghost use Rattle.words.specs.Words.{word_of, refusal_code, code_of, word_after, conversion_code, conversion_at};
 
-use comma::Converted;
-use farthest::Farthest;
-use refusals::Refusal;
-use walk::Outcome;
+use farthest::{Leader, Leaders};
+use refusals::{Refusal, SentBack};
 
 // A farthest card as a word: 0 for none, else its number above sixteen bits of hundredths of a mile.
-fn word_of(leader: Farthest) -> u64
+fn word_of(leader: Option<Leader>) -> u64
     ensures { result ≡ word_of leader }
 {
-    match leader {
-        Farthest::None => 0,
-        Farthest::Card(number, distance) => {
-            let miles = dispersion::hundredths(distance) as u64;
-            number as u64 * 65_536 + miles
-        }
-    }
+    let Some(Leader { number, distance }) = leader else {
+        return 0;
+    };
+    number as u64 * 65_536 + dispersion::hundredths(distance) as u64
 }
 
 // A refusal as a word: its number above thirty-two bits of place.
@@ -32,39 +27,37 @@ pub fn code_of(refusal: Refusal, place: u32) -> u64
 }
 
 // An outcome by words: on acceptance 0 and the two farthest cards, on a refusal its word, and the two are left alone.
-pub fn tell(outcome: Outcome, toxic: &mut u64, flammable: &mut u64) -> u64
+pub fn tell(outcome: Result<Leaders, SentBack<u32>>, toxic: &mut u64, flammable: &mut u64) -> u64
     ensures value { result ≡ code_of outcome }
     ensures toxic_after { toxic.new ≡ word_after Toxic outcome toxic.old }
     ensures flammable_after { flammable.new ≡ word_after Flammable outcome flammable.old }
 {
     match outcome {
-        Outcome::Accepted(leaders) => {
-            let first = leaders.toxic;
-            let second = leaders.flammable;
-            *toxic = word_of(first);
-            *flammable = word_of(second);
+        Ok(leaders) => {
+            *toxic = word_of(leaders.toxic);
+            *flammable = word_of(leaders.flammable);
             0
         }
-        Outcome::Refused(refusal, place) => code_of(refusal, place),
+        Err(SentBack { refusal, place }) => code_of(refusal, place),
     }
 }
 
 // What a conversion returns: 0, or the number of its refusal.
-pub fn conversion_code(converted: Converted) -> u64
+pub fn conversion_code(converted: Result<usize, SentBack<usize>>) -> u64
     ensures { result ≡ conversion_code converted }
 {
     match converted {
-        Converted::Bytes(_) => 0,
-        Converted::Refused(refusal, _) => refusals::number(refusal) as u64,
+        Ok(_) => 0,
+        Err(sent) => refusals::number(sent.refusal) as u64,
     }
 }
 
 // The word beside it: how many bytes were written, or the place of the refusal.
-pub fn conversion_at(converted: Converted) -> u64
+pub fn conversion_at(converted: Result<usize, SentBack<usize>>) -> u64
     ensures { result ≡ conversion_at converted }
 {
     match converted {
-        Converted::Bytes(size) => size as u64,
-        Converted::Refused(_, place) => place as u64,
+        Ok(size) => size as u64,
+        Err(sent) => sent.place as u64,
     }
 }

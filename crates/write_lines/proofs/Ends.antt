@@ -1,6 +1,9 @@
 -- One law for each return, of what is answered and of what is left in the buffer, and what the cards of an accepted register
 -- have of room.
 -- Assumes nothing.
+use Rattle.std.specs.Prelude.{Result, Ok, Err}
+use Rattle.refusals.specs.declared.SentBack.{SentBack}
+use Rattle.refusals.specs.Numbers.{refused_at}
 use Prim.Native.Nat.{ℕ, ◌-◌, ◌*◌, ◌≤◌, ◌<◌}
 use native.Mathlib.Omega.{arith}
 use mathlib.Core.Path.{◌≡◌, ◌∙◌, refl, sym, ap, ap₂}
@@ -16,16 +19,10 @@ use Rattle.buffer.proofs.Laws.{written_first}
 use Rattle.refusals.specs.declared.Refusal.{Refusal}
 use Rattle.refusals.specs.declared.Refusal.TheVariants as refusal
 use Rattle.farthest.specs.declared.Leaders.{Leaders}
-use Rattle.header.specs.declared.Header.{Header}
-use Rattle.header.specs.declared.Header.TheVariants as header
 use Rattle.header.specs.Header.{enough, count_of, bad_length, bad_version, bad_count, bad_buffer, header_if, header_of, Fitting}
 use Rattle.header.proofs.Ends.{header_fits}
-use Rattle.walk.specs.declared.Outcome.{Outcome}
-use Rattle.walk.specs.declared.Outcome.TheVariants as outcome
 use Rattle.cards.specs.Register.{after_header, outcome_of}
 use Rattle.cards.proofs.Laws.{behind_header}
-use Rattle.comma.specs.declared.Converted.{Converted}
-use Rattle.comma.specs.declared.Converted.TheVariants as converted
 use Rattle.strict_lines.specs.Walk.{lines_to}
 use Rattle.write_lines.specs.Writing.{fields_of_register, strict_text, answer_as, writing_of, written_as, write_into}
 use Rattle.write_lines.specs.Accepted.{accepted}
@@ -39,24 +36,24 @@ module _ (text out : List ℕ) (size : ℕ) (e : size ≡ length text) where
   roomy : size ≤ length out → ltb (length out) (length text) ≡ false
   roomy h = le-ltb (length out) (length text) (omega arith)
 
-  pub no_room : length out < size → converted.Refused refusal.Room 0 ≡ answer_as accepted text (length out)
+  pub no_room : length out < size → Err (refused_at refusal.Room 0) ≡ answer_as accepted text (length out)
   no_room h = rw (short h, answer_as)
 
   pub kept : length out < size → out ≡ written_as accepted text out
   kept h = rw (short h, written_as)
 
-  pub counted : size ≤ length out → converted.Bytes size ≡ answer_as accepted text (length out)
-  counted h = rw (roomy h, answer_as) (ap converted.Bytes e)
+  pub counted : size ≤ length out → Ok size ≡ answer_as accepted text (length out)
+  counted h = rw (roomy h, answer_as) (ap Ok e)
 
   pub written : (after : List ℕ) → size ≤ length out → after ≡ sets out 0 text → after ≡ written_as accepted text out
   written after h w = rw (roomy h, written_as) (w ∙ written_first text out (omega arith))
 
 -- ---- a register
 
-module _ (bytes : List ℕ) (x : Outcome) (e : x ≡ outcome_of bytes enough) where
-  module _ (l : Leaders) (q : x ≡ outcome.Accepted l) where
+module _ (bytes : List ℕ) (x : Result Leaders (SentBack ℕ)) (e : x ≡ outcome_of bytes enough) where
+  module _ (l : Leaders) (q : x ≡ Ok l) where
     -- a check that an accepted register passes
-    passed : (b : Bool) (r : Refusal) (h : Header) → after_header (header_if b r h) bytes ≡ outcome.Accepted l → (b ≡ false) × (after_header h bytes ≡ outcome.Accepted l)
+    passed : (b : Bool) (r : Refusal) (h : Result ℕ Refusal) → after_header (header_if b r h) bytes ≡ Ok l → (b ≡ false) × (after_header h bytes ≡ Ok l)
     passed true r h a = clash (cc)
     passed false r h a = (refl, a)
 
@@ -64,9 +61,9 @@ module _ (bytes : List ℕ) (x : Outcome) (e : x ≡ outcome_of bytes enough) wh
     fits : Fitting bytes (16 * count_of bytes) (count_of bytes)
     unfolding outcome_of header_of
     fits =
-        let last : Header = header_if (bad_buffer bytes enough) refusal.Buffer (header.Good (count_of bytes)) in
-        let third : Header = header_if (bad_count bytes) refusal.Count last in
-        let second : Header = header_if (bad_version bytes) refusal.Version third in
+        let last : Result ℕ Refusal = header_if (bad_buffer bytes enough) refusal.Buffer (Ok (count_of bytes)) in
+        let third : Result ℕ Refusal = header_if (bad_count bytes) refusal.Count last in
+        let second : Result ℕ Refusal = header_if (bad_version bytes) refusal.Version third in
         let a = passed (bad_length bytes) refusal.Length second (sym e ∙ q) in
         let b = passed (bad_version bytes) refusal.Version third a.1 in
         let c = passed (bad_count bytes) refusal.Count last b.1 in
@@ -87,7 +84,7 @@ module _ (bytes : List ℕ) (x : Outcome) (e : x ≡ outcome_of bytes enough) wh
       unfolding lines_to strict_text fields_of_register
       text_is = ap₂ lines_to k (behind_header bytes)
 
-      pub accepted_answer : (room : ℕ) (r : Converted) → r ≡ answer_as accepted (lines_to n (take (length bytes - 7) (drop 7 bytes))) room → r ≡ writing_of bytes room
+      pub accepted_answer : (room : ℕ) (r : Result ℕ (SentBack ℕ)) → r ≡ answer_as accepted (lines_to n (take (length bytes - 7) (drop 7 bytes))) room → r ≡ writing_of bytes room
       unfolding writing_of
       accepted_answer room r g =
           g ∙ ap (λ text. answer_as accepted text room) text_is ∙ ap (λ y. answer_as y (strict_text bytes) room) (sym q ∙ e)
@@ -97,8 +94,8 @@ module _ (bytes : List ℕ) (x : Outcome) (e : x ≡ outcome_of bytes enough) wh
       accepted_written out after g =
           g ∙ ap (λ text. written_as accepted text out) text_is ∙ ap (λ y. written_as y (strict_text bytes) out) (sym q ∙ e)
 
-  module _ (r : Refusal) (place : ℕ) (q : x ≡ outcome.Refused r place) where
-    pub refused_answer : (room : ℕ) → converted.Refused r place ≡ writing_of bytes room
+  module _ (r : Refusal) (place : ℕ) (q : x ≡ Err (refused_at r place)) where
+    pub refused_answer : (room : ℕ) → Err (refused_at r place) ≡ writing_of bytes room
     unfolding writing_of
     refused_answer room = ap (λ y. answer_as y (strict_text bytes) room) (sym q ∙ e)
 

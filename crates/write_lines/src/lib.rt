@@ -7,12 +7,10 @@ ghost use Rattle.strict_lines.specs.Walk.{lines_to};
 ghost use Rattle.write_lines.specs.Writing.{answer_as, written_as, writing_of, write_into};
 ghost use Rattle.write_lines.specs.Accepted.{accepted};
 
-use comma::Converted;
-use refusals::Refusal;
-use register::Outcome;
+use refusals::{Refusal, SentBack};
 
 // The text of an accepted register's cards, or 13.
-fn write_cards(cards: &[u8], count: usize, out: &mut [u8]) -> Converted
+fn write_cards(cards: &[u8], count: usize, out: &mut [u8]) -> Result<usize, SentBack<usize>>
     requires { (count ≤ 2000) × (24 * count ≤ length cards.now) }
     ensures value { result ≡ answer_as accepted (lines_to count cards.now) (length out.old) }
     ensures out_after { out.new ≡ written_as accepted (lines_to count cards.now) out.old }
@@ -20,24 +18,27 @@ fn write_cards(cards: &[u8], count: usize, out: &mut [u8]) -> Converted
     let mut line = [0u8; 256];
     let size = strict_lines::text_size(cards, count, &mut line);
     if out.len() < size {
-        return Converted::Refused(Refusal::Room, 0);
+        return Err(SentBack {
+            refusal: Refusal::Room,
+            place: 0,
+        });
     }
     strict_lines::put_lines(cards, count, &mut line, out);
-    Converted::Bytes(size)
+    Ok(size)
 }
 
 // Writes a register as comma lines. A register that is sent back and too short a buffer leave every byte as it was, and so do
 // the bytes behind the text always.
-pub fn write(register: &[u8], out: &mut [u8]) -> Converted
+pub fn write(register: &[u8], out: &mut [u8]) -> Result<usize, SentBack<usize>>
     ensures value { result ≡ writing_of register.now (length out.old) }
     ensures out_after { out.new ≡ write_into register.now out.old }
 {
-    let outcome = register::outcome_of(register, header::ENOUGH);
-    match outcome {
-        Outcome::Accepted(_) => {
-            let count = buffer::two(register, 5) as usize;
-            write_cards(&register[7..], count, out)
-        }
-        Outcome::Refused(refusal, place) => Converted::Refused(refusal, place as usize),
+    if let Err(SentBack { refusal, place }) = register::outcome_of(register, header::ENOUGH) {
+        return Err(SentBack {
+            refusal,
+            place: place as usize,
+        });
     }
+    let count = buffer::two(register, 5) as usize;
+    write_cards(&register[7..], count, out)
 }
