@@ -2,7 +2,7 @@
 -- read holds the ratio, and a larger rate never reads a shorter distance.
 -- Assumes nothing.
 use Rattle.std.specs.Prelude.{ℕ, zero, suc, ◌*◌, ◌≤◌, ◌<◌, ◌≡◌, refl, List, [], ◌∷◌, map, Bool, true, false, ltb, eqb, length, get_or, take, Option, Some, None}
-use Rattle.std.proofs.Common.{zero-le, suc-le-suc, le_refl, le_of_suc-le-suc, not-suc-le-zero, mul-le-mul_left, arith, ap, ⊎_elim, lt-ltb, le-ltb, ne_eqb, eqb-true}
+use Rattle.std.proofs.Common.{zero-le, suc-le-suc, le_refl, le_of_suc-le-suc, not-suc-le-zero, mul-le-mul_left, arith, ap, ⊎_elim, lt-ltb, le-ltb, eqb-true}
 use Rattle.std.proofs.lemmas.List.{length-map}
 use Rattle.search.specs.Rising.{first_at_least, both}
 use Rattle.search.specs.Laws.{lt_or_ge, first_mono, both_true}
@@ -36,19 +36,6 @@ answered_distance true entry d e = go (eqb entry mile_limit) e
     go : (t : Bool) → (elim t as (λ _. Option Miles) [ true ↦ Some (record { 0 = entry }) | false ↦ None ]) ≡ Some d → entry ≡ d.0
     go true p = cc
     go false p = cc
-
--- the three ways of an answer
-pub answered_within : (last rate entry : ℕ) → rate ≤ last → answered (ltb last rate) entry ≡ Some (record { 0 = entry })
-unfolding answered
-answered_within last rate entry h = rw (le-ltb last rate h)
-
-pub answered_limit : (last rate entry : ℕ) → last < rate → entry ≡ mile_limit → answered (ltb last rate) entry ≡ Some (record { 0 = entry })
-unfolding answered
-answered_limit last rate entry h e = rw (lt-ltb last rate h, e)
-
-pub answered_beyond : (last rate entry : ℕ) → last < rate → (entry ≡ mile_limit → ⊥) → answered (ltb last rate) entry ≡ None
-unfolding answered
-answered_beyond last rate entry h e = rw (lt-ltb last rate h, ne_eqb entry mile_limit e, answered)
 
 -- the closest row and the closest column are found by the cut points
 pub row_by_cuts : (rate : ℕ) (rates : List ℕ) → climbs (thousandths rates) ≡ true

@@ -41,6 +41,7 @@ pub fn settle(rows: &[u64], columns: &[u64], rate: u64, endpoint: u64) -> Place
 
 // What an entry in use answers: up to the last row it is the distance, above it only where it is 25 miles. Otherwise the card lies
 // beyond the table.
+#[tactic(auto, unfolding(crate::specs::Rules::answered))]
 pub fn answer(last: u64, rate: u64, entry: u16) -> Option<Miles>
     ensures { result ≡ answered (ltb last rate) entry }
 {

@@ -1,33 +1,13 @@
-use Prim.Native.Nat.{suc, ◌*◌, ◌-◌}
-use native.Mathlib.Omega.{arith}
-use borrow.Author.Rules.{rules}
-use borrow.Author.Count.{below_none, below_more}
+use Rattle.std.proofs.Common.{rules, arith, ℕ, suc, ◌+◌, ◌*◌, ◌/◌, ◌≤◌, ◌<◌, length, get_or}
 use Rattle.rules.specs.Rules.{answered}
 use Rattle.rules.proofs.Scaled.{scaled_place}
 use Rattle.rules.proofs.by_range.Goals as goal
-use Rattle.rules.proofs.by_range.Goals.{else-loop-i-test, then-loop-i-test+then-rate-reaching}
-
-pub loop-i-init : goal.loop-i-init
-loop-i-init c = (search rules, below_none _)
-
-pub overflow_add-i : goal.overflow_add-i
-overflow_add-i c = omega arith
-
-pub loop-i-smaller : goal.loop-i-smaller
-loop-i-smaller c = omega arith
-
-pub loop-i-preserved : goal.loop-i-preserved
-loop-i-preserved c = (
-  omega arith,
-  below_more _ _ c.loop-i.invariant.1 (omega (arith, c.reaching.ensures)),
-)
 
 pub returns : goal.returns
 unfolding answered
-returns c = let a = c.args in
-    let place = scaled_place (suc (1000 * a.rate)) a.endpoint a.bounds.now c.loop-i.i in
-    rw (place c.loop-i.invariant.0 c.loop-i.invariant.1
-    (λ h. elim c.loop-i-test.branch [
-      | else-loop-i-test w ↦ absurd (omega arith)
-      | then-loop-i-test+then-rate-reaching w ↦ omega (arith, w.reaching.ensures, w.if-rate-reaching.true)
-    ]))
+returns c =
+    let r : ℕ = c.unwrap_or.result in
+    let within : r ≤ length c.args.bounds.now = search rules in
+    let below : (k : ℕ) → k < r → (get_or c.args.bounds.now k 0 * c.args.endpoint + 999) / 1000 ≤ c.args.rate = search rules in
+    let here : r < length c.args.bounds.now → c.args.rate < (get_or c.args.bounds.now r 0 * c.args.endpoint + 999) / 1000 = search rules in
+    rw (scaled_place (suc (1000 * c.args.rate)) c.args.endpoint c.args.bounds.now r within (λ k l. omega (arith, below k l)) (λ l. omega (arith, here l)))
