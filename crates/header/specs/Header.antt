@@ -55,11 +55,6 @@ header_of bytes room =
     (header_if (bad_count bytes) refusal.Count
     (header_if (bad_buffer bytes room) refusal.Buffer (Ok (count_of bytes)))))
 
--- the refusal that a header gives; the last of them where it gives none
-abbrev pub header_refusal : Result ℕ Refusal → Refusal
-header_refusal (Ok n) = refusal.Buffer
-header_refusal (Err r) = r
-
 -- what a good header says of the two lengths
 pub record Fitting (bytes : List ℕ) (room n : ℕ) : Type 0 where
   pub cards : n ≤ 2_000

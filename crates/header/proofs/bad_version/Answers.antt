@@ -1,6 +1,7 @@
-use Rattle.header.proofs.Ends.{version_is}
 use borrow.Author.Rules.{rules}
+use Rattle.header.specs.Header.{bad_version}
 use Rattle.header.proofs.bad_version.Goals as goal
 
 pub returns : goal.returns
-returns c = search (version_is, rules)
+unfolding bad_version
+returns c = search rules

@@ -1,18 +1,27 @@
-use Rattle.header.proofs.Ends.{header_length, header_version, header_count, header_buffer, header_good, header_fits}
 use borrow.Author.Rules.{rules}
+use Rattle.header.specs.Header.{bad_buffer, header_of}
+use Rattle.header.proofs.Ends.{header_fits}
 use Rattle.header.proofs.header_of.Goals as goal
 
-pub returns-then-bad_length : goal.returns-then-bad_length
-returns-then-bad_length c = search (header_length, rules)
+pub returns-then-bad_length-clause-value : goal.returns-then-bad_length-clause-value
+unfolding header_of
+returns-then-bad_length-clause-value c = search rules
 
-pub returns-then-bad_version : goal.returns-then-bad_version
-returns-then-bad_version c = search (header_version, rules)
+pub returns-then-bad_version-clause-value : goal.returns-then-bad_version-clause-value
+unfolding header_of
+returns-then-bad_version-clause-value c = search rules
 
-pub returns-then-bad_count : goal.returns-then-bad_count
-returns-then-bad_count c = search (header_count, rules)
+pub returns-then-bad_count-clause-value : goal.returns-then-bad_count-clause-value
+unfolding header_of
+returns-then-bad_count-clause-value c = search rules
 
-pub returns-then-room-count : goal.returns-then-room-count
-returns-then-room-count c = search (header_buffer, rules)
+pub returns-then-room-count-clause-value : goal.returns-then-room-count-clause-value
+unfolding header_of bad_buffer
+returns-then-room-count-clause-value c = search rules
 
-pub returns : goal.returns
-returns c = search (header_good, header_fits, rules)
+pub returns-clause-value : goal.returns-clause-value
+unfolding header_of bad_buffer
+returns-clause-value c = search rules
+
+pub returns-clause-header_fits : goal.returns-clause-header_fits
+returns-clause-header_fits c = search (header_fits, rules)
