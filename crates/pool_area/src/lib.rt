@@ -42,13 +42,9 @@ pub fn pool_area(quantity: Pounds, df: u8, containment: Containment) -> SquareFe
         Containment::Open => SquareFeet(full_area(quantity, df)),
         Containment::Dike(dike) => SquareFeet(diked_area(quantity, df, dike)),
         Containment::Building(building) => {
-            let floor = building.floor.0;
-            SquareFeet(floor.min(full_area(quantity, df)))
+            SquareFeet(building.floor.0.min(full_area(quantity, df)))
         }
-        Containment::ShedWithDoors(shed) => {
-            let floor = shed.floor.0;
-            SquareFeet(floor.min(full_area(quantity, df)))
-        }
+        Containment::ShedWithDoors(shed) => SquareFeet(shed.floor.0.min(full_area(quantity, df))),
     }
 }
 
@@ -57,12 +53,7 @@ pub fn beyond_dike(quantity: Pounds, df: u8, containment: Containment) -> bool
     ensures { result ≡ beyond_dike quantity.0 df containment }
 {
     match containment {
-        Containment::Open => false,
-        Containment::Dike(dike) => {
-            let area = dike.area.0;
-            area < full_area(quantity, df)
-        }
-        Containment::Building(_) => false,
-        Containment::ShedWithDoors(_) => false,
+        Containment::Dike(dike) => dike.area.0 < full_area(quantity, df),
+        Containment::Open | Containment::Building(_) | Containment::ShedWithDoors(_) => false,
     }
 }
