@@ -1,7 +1,6 @@
 -- One law for each way out of a function that goes by tests: what the tests and the calls on the way say is what the
 -- definition says.
 -- Assumes nothing.
-use Rattle.std.specs.Prelude.{Option}
 use Prim.Native.Nat.{ℕ}
 use mathlib.Core.Path.{◌≡◌, ◌∙◌, refl, ap, sym}
 use mathlib.Core.Bool.{Bool, true, false}
@@ -10,18 +9,13 @@ use lib.Signed.{lt_z}
 use mir.Syntax.{w16}
 use mir.Val.{SFits, to_z, of_z}
 use mir.Facts.{to_z-of_z}
-use Rattle.exhibits.specs.declared.Liquid.{Liquid}
 use Rattle.factors.specs.declared.Column.{Column}
 use Rattle.factors.specs.declared.Column.TheVariants as column
-use Rattle.factors.specs.Factors.{column_of, factors_of}
+use Rattle.factors.specs.Factors.{column_of}
 
 -- what a test of a signed number says, where it was handed the number by its bits
 pub turn : {t : ℤ} (p : ℤ → Bool) {b v : Bool} → SFits w16 t → b ≡ p (to_z w16 (of_z w16 t)) → b ≡ v → p t ≡ v
 turn p f e q = ap p (sym (to_z-of_z f)) ∙ (sym e ∙ q)
-
--- the factors in the column that the match has found
-pub in_column : (l : Liquid) {k m : Column} {r : Option (ℕ × ℕ)} → k ≡ m → r ≡ factors_of l m → r ≡ factors_of l k
-in_column l e q = q ∙ ap (factors_of l) (sym e)
 
 -- the columns by the answers of the six tests in turn
 abbrev column_by : Bool → Bool → Bool → Bool → Bool → Bool → Column
