@@ -16,6 +16,7 @@ const ROWS: usize = 27;
 
 // One of Tables 5 to 8 at a rate in thousandths of a pound per minute and an endpoint in hundred-thousandths of mg/L. They have
 // the same rows and columns.
+#[tactic(auto, using(search::specs::Laws::first_within))]
 pub fn read(table: u8, rate: u64, endpoint: u32) -> Option<Miles>
     requires { (4 < table) × (table ≤ 8) }
     ensures { result ≡ by_row rates5 (from_column (closest_column endpoint endpoints5) (get_or dense_tables (table - 5) [])) rate }
