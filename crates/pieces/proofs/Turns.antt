@@ -1,30 +1,26 @@
--- What the loop of `end_of` rests on: a byte that is passed, the separator, and the end of the text.
+-- What `end_of` rests on: the bytes before the first separator are as many as std's place of it, and all where there is none.
 -- Assumes nothing.
-use Prim.Native.Nat.{ℕ, suc, ◌+◌, ◌≤◌, ◌<◌}
-use native.Mathlib.Numerals.{add-one}
-use native.Mathlib.Omega.{arith}
-use mathlib.Core.Path.{◌≡◌}
-use mathlib.Core.List.{List}
-use lib.ListN.{length, drop, get_or, drop_of_length-le}
-use lib.Seq.{drop-cons}
+use Rattle.std.specs.Prelude.{ℕ, ◌+◌, ◌≤◌, ◌<◌, ◌≡◌, refl, List, [], ◌∷◌, Bool, true, false, Option, eqb, length, drop, unwrap_or, position}
+use Rattle.std.proofs.Common.{cond, arith}
+use Rattle.std.specs.List.{position_or_len, slice_range}
+use Rattle.std.proofs.lemmas.List.Recursion.{is_position_or_len}
+use Rattle.std.proofs.lemmas.List.Sums.{prefix_len-le-length}
+use Rattle.std.proofs.lemmas.Grind.{common_steps}
 use Rattle.pieces.specs.Pieces.{before}
-use Rattle.pieces.proofs.Laws.{before_stop, before_on, before_none}
 
--- `whole` is the end of the piece; `i` is where the walk stands
-module _ (x : ℕ) (text : List ℕ) (whole i : ℕ) (so_far : whole ≡ i + length (before x (drop i text))) where
-  pub passed_on : i < length text → (get_or text i 0 ≡ x → ⊥) → whole ≡ i + 1 + length (before x (drop (i + 1) text))
-  passed_on h n =
-      let here : length (before x (drop i text)) ≡ suc (length (before x (drop (suc i) text))) =
-      rw (drop-cons text i 0 h, before_on x (get_or text i 0) (drop (suc i) text) n) in
-      rw (add-one i) (omega (arith, so_far, here))
+before_length : (x : ℕ) (s : List ℕ) → length (before x s) ≡ position_or_len (λ b. eqb b x) s
+unfolding before
+before_length x = is_position_or_len (λ s. length (before x s)) (λ b. eqb b x) refl (λ b rest. go b rest (eqb b x))
+  where
+    go : (b : ℕ) (rest : List ℕ) (t : Bool) → length (elim t as (λ _. List ℕ) [ true ↦ [] | false ↦ b ∷ before x rest ]) ≡ cond t 0 (1 + length (before x rest))
+    go b rest true = refl
+    go b rest false = omega arith
 
-  pub stopped : i < length text → get_or text i 0 ≡ x → i ≡ whole
-  stopped h e =
-      let here : length (before x (drop i text)) ≡ 0 =
-      rw (drop-cons text i 0 h, before_stop x (get_or text i 0) (drop (suc i) text) e) in
-      omega (arith, so_far, here)
+pub beyond : (x at : ℕ) (text : List ℕ) → length text < at → at ≡ at + length (before x (drop at text))
+unfolding before
+beyond x at text h = grind (arith, common_steps)
 
-  pub ran_out : length text ≤ i → i ≡ whole
-  ran_out h =
-      let here : length (before x (drop i text)) ≡ 0 = rw (drop_of_length-le text h) (before_none x) in
-      omega (arith, so_far, here)
+pub found : (x at n : ℕ) (text rest : List ℕ) (place : Option ℕ) → at ≤ length text → rest ≡ slice_range text at (length text) → place ≡ position (λ b. eqb b x) rest → n ≡ unwrap_or place (length rest) → at + n ≡ at + length (before x (drop at text))
+found x at n text rest place h e p q =
+    let all : rest ≡ drop at text = grind (arith, common_steps) in
+    grind (arith, common_steps, before_length, prefix_len-le-length)

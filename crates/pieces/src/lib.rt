@@ -4,13 +4,14 @@
 ghost use Rattle.std.specs.Prelude.{◌≡◌, ◌+◌, length, drop};
 ghost use Rattle.pieces.specs.Pieces.{before};
 
-// The place of the first separator from a place on, or the end of the text where there is none.
+// The place of the first separator from a place on, or the end of the text where there is none. A place behind the text is
+// its own.
 pub fn end_of(text: &[u8], at: usize, separator: u8) -> usize
     ensures { result ≡ at + length (before separator (drop at text.now)) }
 {
-    if text.len() < at {
+    let Some(rest) = text.get(at..) else {
         return at;
-    }
-    let piece = text[at..].iter().position(|&b| b == separator);
-    piece.map_or(text.len(), |length| at + length)
+    };
+    let place = rest.iter().position(|&b| b == separator);
+    at + place.unwrap_or(rest.len())
 }

@@ -1,13 +1,14 @@
-use Prim.Native.Nat.{◌-◌}
-use borrow.Author.Rules.{rules}
-use Rattle.pieces.proofs.Turns.{passed_on, stopped, ran_out}
+use Rattle.std.proofs.Common.{rules, tests}
+use Rattle.std.proofs.lemmas.Iterator.{YieldsList-from_slice}
+use Rattle.std.proofs.lemmas.Iterator.Search.{position_from_yields_List}
+use Rattle.std.specs.Prelude.{eqb}
+use Rattle.pieces.proofs.Turns.{beyond, found}
 use Rattle.pieces.proofs.end_of.Goals as goal
 
-pub returns-then-text-end : goal.returns-then-text-end
-returns-then-text-end c = search (stopped, rules)
-
-pub loop-end-preserved : goal.loop-end-preserved
-loop-end-preserved c = search (passed_on, rules)
+pub returns-in_default : goal.returns-in_default
+returns-in_default c = search (beyond, rules)
 
 pub returns : goal.returns
-returns c = search (ran_out, rules)
+returns c =
+    let place = position_from_yields_List (λ b. eqb b c.args.separator) _ _ c.position-place.result c.position-place.ensures.ran (YieldsList-from_slice c.in-Some.rest.now cc) (λ x b q k. search (rules, tests)) in
+    found _ _ _ _ c.in-Some.rest.now c.position-place.result (search rules) (search rules) place (search rules)
