@@ -1,7 +1,7 @@
 -- What callers use of the tables instead of their text: for one table, ground and endpoint a larger rate never reads a
 -- shorter distance. It is proved once for each form of table.
 -- Assumes nothing.
-use Rattle.std.specs.Prelude.{ℕ, zero, suc, ◌≤◌, ◌<◌, ◌≡◌, refl, List, [], ◌∷◌, map, Bool, true, get_or, Some, None}
+use Rattle.std.specs.Prelude.{ℕ, ◌≤◌, ◌<◌, ◌≡◌, refl, map, Bool, true, get_or, Some, None}
 use Rattle.std.proofs.Common.{arith, ap}
 use Rattle.std.proofs.Math.ListN.{get_or-eq_default}
 use Rattle.search.specs.Rising.{both}

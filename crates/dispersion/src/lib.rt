@@ -31,6 +31,7 @@ pub fn hundredths(distance: Miles) -> u16
 }
 
 // A table of rows, by their cut points, the last row's rate and the entries in use of its two columns.
+#[tactic(auto, using(search::specs::Laws::first_within))]
 fn by_row(
     cuts: &[u64],
     last: u64,
