@@ -1,92 +1,31 @@
--- What the two walks over the spaces around a field rest on: a space that is passed, the byte where the walk stops, and the end.
+-- What is left of a field, by its bytes: all before the start are spaces and the one there is none; all from the end on are spaces
+-- and the one before it is none.
 -- Assumes nothing.
-use Prim.Native.Nat.{ℕ, suc, ◌+◌, ◌-◌, ◌≤◌, ◌<◌}
-use native.Mathlib.Numerals.{add-one}
-use native.Mathlib.Omega.{arith}
-use mathlib.Core.Path.{◌≡◌, refl, sym, ap, ◌∙◌}
-use mathlib.Core.List.{List, [], ◌∷◌, ◌++◌}
-use lib.ListN.{length, take, drop, get_or, length-drop, drop_of_length-le}
-use lib.Seq.{drop-cons, take-suc, get_or-drop, take_all}
-use borrow.Author.Tests.{eq-eqb, ne_eqb}
-use Rattle.spaces.specs.Spaces.{skip, keep, chop, bare}
+use Rattle.std.specs.Prelude.{ℕ, zero, suc, ◌-◌, ◌≤◌, ◌<◌, ◌≡◌, refl, List, [], ◌∷◌, length, take, drop}
+use Rattle.std.proofs.Common.{get_or, arith, ap, ◌∙◌, eq-eqb, ne_eqb, suc-le-suc, le_of_suc-le-suc, zero-le, not-suc-le-zero, length-drop}
+use Rattle.std.proofs.Math.ListN.{drop_of_length-le}
+use Rattle.std.proofs.Math.Seq.{take_all}
+use Rattle.spaces.specs.Spaces.{skip, keep, chop}
 
--- ---- in front
+skip_to : (s : List ℕ) (n : ℕ) → ((k : ℕ) → k < n → get_or s k 0 ≡ 32) → (n < length s → get_or s n 0 ≡ 32 → ⊥) → drop n s ≡ skip s
+unfolding skip
+skip_to [] n spaces stop = drop_of_length-le [] {i = n} zero-le
+skip_to (b ∷ s) zero spaces stop = rw (ne_eqb b 32 (stop (suc-le-suc zero-le)), skip)
+skip_to (b ∷ s) (suc n) spaces stop =
+    rw (eq-eqb b 32 (spaces 0 (suc-le-suc zero-le)), skip) (skip_to s n (λ k q. spaces (suc k) (suc-le-suc q)) (λ q. stop (suc-le-suc q)))
 
--- `i` is where the walk stands
-module _ (field : List ℕ) (i : ℕ) (so_far : skip field ≡ skip (drop i field)) where
-  pub space_passed : i < length field → get_or field i 0 ≡ 32 → skip field ≡ skip (drop (i + 1) field)
-  unfolding skip
-  space_passed h e =
-      let here : skip (drop i field) ≡ skip (drop (suc i) field) =
-      rw (drop-cons field i 0 h, eq-eqb (get_or field i 0) 32 e, skip) in
-      so_far ∙ here ∙ ap (λ (k : ℕ). skip (drop k field)) (sym (add-one i))
+pub skip_from : (s : List ℕ) (n : ℕ) → ((k : ℕ) → k < n → get_or s k 0 ≡ 32) → (n < length s → get_or s n 0 ≡ 32 → ⊥) → take (length s - n) (drop n s) ≡ skip s
+skip_from s n spaces stop = take_all (length s - n) (drop n s) (omega (arith, length-drop n s)) ∙ skip_to s n spaces stop
 
-  pub space_stopped : i < length field → (get_or field i 0 ≡ 32 → ⊥) → drop i field ≡ skip field
-  unfolding skip
-  space_stopped h n =
-      let here : skip (drop i field) ≡ drop i field =
-      rw (drop-cons field i 0 h, ne_eqb (get_or field i 0) 32 n, skip) in
-      sym (so_far ∙ here)
-
-  pub space_end : length field ≤ i → drop i field ≡ skip field
-  unfolding skip
-  space_end h =
-      let here : skip (drop i field) ≡ drop i field = rw (drop_of_length-le field h) in
-      sym (so_far ∙ here)
-
--- ---- behind
-
-chop_space : (u : List ℕ) → chop (u ++ (32 ∷ [])) ≡ chop u
+pub chop_to : (s : List ℕ) (n : ℕ) → ((k : ℕ) → n ≤ k → k < length s → get_or s k 0 ≡ 32) → ((k : ℕ) → suc k ≡ n → get_or s k 0 ≡ 32 → ⊥) → n ≤ length s → take n s ≡ chop s
 unfolding chop
-chop_space [] = refl
-chop_space (b ∷ u) = ap (keep b) (chop_space u)
-
-keep_some : (c b : ℕ) (u : List ℕ) → keep c (u ++ (b ∷ [])) ≡ c ∷ (u ++ (b ∷ []))
-keep_some c b [] = refl
-keep_some c b (d ∷ u) = refl
-
-chop_stops : (u : List ℕ) (b : ℕ) → (b ≡ 32 → ⊥) → chop (u ++ (b ∷ [])) ≡ u ++ (b ∷ [])
-unfolding chop
-chop_stops [] b n = rw (ne_eqb b 32 n, keep)
-chop_stops (c ∷ u) b n = ap (keep c) (chop_stops u b n) ∙ keep_some c b u
-
--- the bytes up to the place behind one of them
-one_more : (field : List ℕ) (start end : ℕ) → start < end → end ≤ length field
-    → take (end - start) (drop start field) ≡ take (end - 1 - start) (drop start field) ++ (get_or field (end - 1) 0 ∷ [])
-one_more field start end h k =
-    let j = end - 1 - start in
-    let more : end - start ≡ suc j = omega arith in
-    let place : start + j ≡ end - 1 = omega arith in
-    ap (λ (n : ℕ). take n (drop start field)) more
-    ∙ take-suc (drop start field) j 0 (omega (arith, length-drop start field))
-    ∙ ap (λ (b : ℕ). take j (drop start field) ++ (b ∷ [])) (get_or-drop start field j 0 ∙ ap (λ (n : ℕ). get_or field n 0) place)
-
-module _ (field : List ℕ) (start end : ℕ) (so_far : chop (take (end - start) (drop start field)) ≡ chop (drop start field)) where
-  pub space_dropped : start < end → end ≤ length field → get_or field (end - 1) 0 ≡ 32
-      → chop (take (end - 1 - start) (drop start field)) ≡ chop (drop start field)
-  space_dropped h k e =
-      let rest = take (end - 1 - start) (drop start field) in
-      sym (chop_space rest) ∙ ap (λ (b : ℕ). chop (rest ++ (b ∷ []))) (sym e) ∙ ap chop (sym (one_more field start end h k)) ∙ so_far
-
-  pub byte_kept : start < end → end ≤ length field → (get_or field (end - 1) 0 ≡ 32 → ⊥)
-      → take (end - start) (drop start field) ≡ chop (drop start field)
-  byte_kept h k n =
-      let rest = take (end - 1 - start) (drop start field) in
-      let whole = one_more field start end h k in
-      whole ∙ sym (chop_stops rest (get_or field (end - 1) 0) n) ∙ ap chop (sym whole) ∙ so_far
-
-  pub none_kept : end ≤ start → take (end - start) (drop start field) ≡ chop (drop start field)
-  unfolding chop
-  none_kept h =
-      let none : end - start ≡ 0 = omega arith in
-      rw none (rw none at so_far)
-
--- at first nothing is dropped
-pub all_there : (field : List ℕ) (start : ℕ) → chop (take (length field - start) (drop start field)) ≡ chop (drop start field)
-all_there field start = ap chop (take_all (length field - start) (drop start field) (omega (arith, length-drop start field)))
-
--- both walks, one after the other
-pub both_walked : (field : List ℕ) (start end : ℕ) → drop start field ≡ skip field
-    → take (end - start) (drop start field) ≡ chop (drop start field) → take (end - start) (drop start field) ≡ bare field
-unfolding bare
-both_walked field start end front back = back ∙ ap chop front
+chop_to [] n spaces stop h = grind arith
+chop_to (b ∷ s) zero spaces stop h =
+    let none : [] ≡ chop s = chop_to s 0 (λ k p q. spaces (suc k) zero-le (suc-le-suc q)) (λ k e. absurd (omega arith)) zero-le in
+    rw (← none) (rw (eq-eqb b 32 (spaces 0 zero-le (suc-le-suc zero-le)), keep))
+chop_to (b ∷ s) (suc zero) spaces stop h =
+    let none : [] ≡ chop s = chop_to s 0 (λ k p q. spaces (suc k) (suc-le-suc zero-le) (suc-le-suc q)) (λ k e. absurd (omega arith)) zero-le in
+    rw (← none) (rw (ne_eqb b 32 (stop 0 refl), keep))
+chop_to (b ∷ []) (suc (suc n)) spaces stop h = absurd (not-suc-le-zero (le_of_suc-le-suc h))
+chop_to (b ∷ (c ∷ s)) (suc (suc n)) spaces stop h =
+    ap (keep b) (chop_to (c ∷ s) (suc n) (λ k p q. spaces (suc k) (suc-le-suc p) (suc-le-suc q)) (λ k e. stop (suc k) (ap suc e)) (le_of_suc-le-suc h))

@@ -1,33 +1,28 @@
 // A field of a comma line without the spaces around it.
 #![tactic(auto)]
 
-ghost use Rattle.std.specs.Prelude.{◌≡◌, ◌-◌, ◌≤◌, length, take, drop};
+ghost use Rattle.std.specs.Prelude.{◌≡◌};
 ghost use Rattle.spaces.specs.Spaces.{skip, chop, bare};
 
-// Where a field starts, behind the spaces in front.
-fn start_of(field: &[u8]) -> usize
-    ensures field_value { drop result field.now ≡ skip field.now }
-    ensures upper_bound { result ≤ length field.now }
+// A field from its first byte that is no space on.
+fn skip(field: &[u8]) -> &[u8]
+    ensures { result.now ≡ skip field.now }
 {
-    field.iter().position(|&b| b != b' ').unwrap_or(field.len())
+    let first = field.iter().position(|&b| b != b' ');
+    &field[first.unwrap_or(field.len())..]
 }
 
-// Where the bytes from a start on end, before the spaces behind.
-fn end_of(field: &[u8], start: usize) -> usize
-    requires { start ≤ length field.now }
-    ensures field_value { take (result - start) (drop start field.now) ≡ chop (drop start field.now) }
-    ensures lower_bound { start ≤ result }
-    ensures upper_bound { result ≤ length field.now }
+// A field up to its last byte that is no space.
+fn chop(field: &[u8]) -> &[u8]
+    ensures { result.now ≡ chop field.now }
 {
-    let last = field[start..].iter().rposition(|&b| b != b' ');
-    last.map_or(start, |last| start + last + 1)
+    let last = field.iter().rposition(|&b| b != b' ');
+    &field[..last.map_or(0, |last| last + 1)]
 }
 
 // A field without the spaces around it.
 pub fn trimmed(field: &[u8]) -> &[u8]
     ensures { result.now ≡ bare field.now }
 {
-    let start = start_of(field);
-    let end = end_of(field, start);
-    &field[start..end]
+    chop(skip(field))
 }
