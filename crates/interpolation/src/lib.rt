@@ -53,6 +53,7 @@ fn interpolate(low: Row, high: Row, rate: f64) -> f64
 }
 
 // An entry in use that is read as it stands.
+#[tactic(auto, unfolding(crate::specs::Interpolation::entry_read))]
 pub fn entry(distance: u16) -> Likely
     ensures { result ≡ entry_read distance }
 {
@@ -63,6 +64,7 @@ pub fn entry(distance: u16) -> Likely
 }
 
 // A rate strictly between two rows, whose upper entry may be the limit.
+#[tactic(auto, unfolding(crate::specs::Interpolation::between_rows))]
 fn between(r0: u64, d0: u16, r1: u64, d1: u16, rate: u64) -> Likely
     ensures { result ≡ between_rows r0 d0 r1 d1 rate }
 {
@@ -75,6 +77,7 @@ fn between(r0: u64, d0: u16, r1: u64, d1: u16, rate: u64) -> Likely
 }
 
 // A rate above the last row, whose entry may be the limit; otherwise it is beyond the table.
+#[tactic(auto, unfolding(crate::specs::Interpolation::above_last))]
 fn above_last(last: u16) -> Option<Likely>
     ensures { result ≡ above_last last }
 {
@@ -86,6 +89,7 @@ fn above_last(last: u16) -> Option<Likely>
 
 // A table of rows, by their rates in thousandths and the entries in use of the column that is read, at a rate: a distance, or none
 // where the rate is beyond the table.
+#[tactic(auto, unfolding(crate::specs::Interpolation::likely_at))]
 pub fn read(rates: &[u64], entries: &[u16], rate: u64) -> Option<Likely>
     requires { (0 < length rates.now) × (length entries.now ≡ length rates.now) }
     ensures { result ≡ likely_at rates.now (λ i. slice_index entries.now i) rate }
