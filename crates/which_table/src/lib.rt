@@ -20,15 +20,11 @@ pub enum State {
 fn generic_table(plume: Plume, topography: Ground, ten_minutes: bool) -> u8
     ensures { result ≡ Rattle.which_table.specs.WhichTable.generic_table plume topography ten_minutes }
 {
-    match plume {
-        Plume::Neutral => match topography {
-            Ground::Rural => if ten_minutes { 1 } else { 2 },
-            Ground::Urban => if ten_minutes { 3 } else { 4 },
-        },
-        Plume::Dense => match topography {
-            Ground::Rural => if ten_minutes { 5 } else { 6 },
-            Ground::Urban => if ten_minutes { 7 } else { 8 },
-        },
+    match (plume, topography) {
+        (Plume::Neutral, Ground::Rural) => if ten_minutes { 1 } else { 2 },
+        (Plume::Neutral, Ground::Urban) => if ten_minutes { 3 } else { 4 },
+        (Plume::Dense, Ground::Rural) => if ten_minutes { 5 } else { 6 },
+        (Plume::Dense, Ground::Urban) => if ten_minutes { 7 } else { 8 },
     }
 }
 
@@ -36,11 +32,8 @@ fn plume_in(state: State, plume: Plume) -> Plume
     ensures { result ≡ Rattle.which_table.specs.WhichTable.plume_in state plume }
 {
     match state {
-        State::Gas => plume,
-        State::Pressurized => Plume::Dense,
-        State::Refrigerated => Plume::Dense,
-        State::Liquid => plume,
-        State::Solution => plume,
+        State::Pressurized | State::Refrigerated => Plume::Dense,
+        State::Gas | State::Liquid | State::Solution => plume,
     }
 }
 
@@ -48,39 +41,36 @@ fn ammonia_table(state: State) -> u8
     ensures { result ≡ Rattle.which_table.specs.WhichTable.ammonia_table state }
 {
     match state {
-        State::Gas => 10,
         State::Pressurized => 9,
-        State::Refrigerated => 10,
-        State::Liquid => 10,
-        State::Solution => 10,
+        State::Gas | State::Refrigerated | State::Liquid | State::Solution => 10,
     }
 }
 
 fn ten_minutes_in(state: State, ten_minutes: bool) -> bool
     ensures { result ≡ Rattle.which_table.specs.WhichTable.ten_minutes_in state ten_minutes }
 {
-    match state {
-        State::Gas => ten_minutes,
-        State::Pressurized => ten_minutes,
-        State::Refrigerated => ten_minutes,
-        State::Liquid => ten_minutes,
-        State::Solution => true,
-    }
+    ten_minutes || matches!(state, State::Solution)
 }
+
+// The CAS numbers of the three substances that have tables of their own.
+const AMMONIA: u32 = 7_664_417;
+
+const CHLORINE: u32 = 7_782_505;
+
+const SULFUR_DIOXIDE: u32 = 7_446_095;
 
 // The reference table of a substance: three have their own, the others go by plume, ground and duration.
 pub fn table(cas: u32, state: State, plume: Plume, topography: Ground, ten_minutes: bool) -> u8
     ensures { result ≡ table_of cas state plume topography ten_minutes }
 {
-    if cas == 7664417 {
-        return ammonia_table(state);
+    match cas {
+        AMMONIA => ammonia_table(state),
+        CHLORINE => 11,
+        SULFUR_DIOXIDE => 12,
+        _ => generic_table(
+            plume_in(state, plume),
+            topography,
+            ten_minutes_in(state, ten_minutes),
+        ),
     }
-    if cas == 7782505 {
-        return 11;
-    }
-    if cas == 7446095 {
-        return 12;
-    }
-    let ten = ten_minutes_in(state, ten_minutes);
-    generic_table(plume_in(state, plume), topography, ten)
 }

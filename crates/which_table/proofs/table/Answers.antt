@@ -1,15 +1,21 @@
-use Rattle.which_table.proofs.Ends.{ammonia, chlorine, sulfur, generic}
+-- Each arm: the definition, by the number that the match has found.
+-- Assumes nothing.
 use borrow.Author.Rules.{rules}
+use Rattle.which_table.specs.WhichTable.{table_of}
 use Rattle.which_table.proofs.table.Goals as goal
 
-pub returns-then-cas-eq7664417 : goal.returns-then-cas-eq7664417
-returns-then-cas-eq7664417 c = search (ammonia, rules)
+pub returns-in-7664417 : goal.returns-in-7664417
+unfolding table_of
+returns-in-7664417 c = search rules
 
-pub returns-then-cas-eq7782505 : goal.returns-then-cas-eq7782505
-returns-then-cas-eq7782505 c = search (chlorine, rules)
+pub returns-in-7782505 : goal.returns-in-7782505
+unfolding table_of
+returns-in-7782505 c = search rules
 
-pub returns-then-cas-eq7446095 : goal.returns-then-cas-eq7446095
-returns-then-cas-eq7446095 c = search (sulfur, rules)
+pub returns-in-7446095 : goal.returns-in-7446095
+unfolding table_of
+returns-in-7446095 c = search rules
 
-pub returns : goal.returns
-returns c = search (generic, rules)
+pub returns-in_default : goal.returns-in_default
+unfolding table_of
+returns-in_default c = search rules
