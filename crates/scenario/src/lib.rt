@@ -42,6 +42,7 @@ pub struct Scenario {
 }
 
 // Route 1: the whole quantity as a gas over ten minutes.
+#[tactic(auto, unfolding(crate::specs::Plan::vapor_of))]
 fn vapor(card: ToxicCard, endpoint: u32, plume: Plume) -> Scenario
     ensures { result ≡ vapor_of card endpoint plume }
 {
@@ -66,6 +67,7 @@ struct Source {
 }
 
 // Route 2: a pool that evaporates, and the table of its duration.
+#[tactic(auto, using(pool_area::proofs::Laws::area_limit), unfolding(crate::specs::Plan::pool_of))]
 fn pool(card: ToxicCard, source: Source) -> Scenario
     requires quantity_bound { card.quantity.0 ≤ 10_000_000 }
     requires df_bound { source.df ≤ 200 }
@@ -90,11 +92,9 @@ fn freed(card: ToxicCard, gas: Gas) -> Option<Scenario>
 {
     match card.containment {
         Containment::Dike(_) => None,
-        Containment::Open | Containment::Building(_) | Containment::ShedWithDoors(_) => Some(vapor(
-            card,
-            gas.endpoint,
-            gas.plume,
-        )),
+        Containment::Open | Containment::Building(_) | Containment::ShedWithDoors(_) => {
+            Some(vapor(card, gas.endpoint, gas.plume))
+        }
     }
 }
 
@@ -190,6 +190,7 @@ fn dissolved(card: ToxicCard, solution: Solution) -> Option<Scenario>
 }
 
 // The scenario of a toxic card, or that its state, containment or exhibit allows none.
+#[tactic(auto, unfolding(crate::specs::Plan::plan_of))]
 pub fn plan(card: ToxicCard) -> Option<Scenario>
     requires { Limits card }
     ensures { result ≡ plan_of card }

@@ -60,6 +60,7 @@ const CHLORINE: u32 = 7_782_505;
 const SULFUR_DIOXIDE: u32 = 7_446_095;
 
 // The reference table of a substance: three have their own, the others go by plume, ground and duration.
+#[tactic(auto, unfolding(crate::specs::WhichTable::table_of))]
 pub fn table(cas: u32, state: State, plume: Plume, topography: Ground, ten_minutes: bool) -> u8
     ensures { result ≡ table_of cas state plume topography ten_minutes }
 {
