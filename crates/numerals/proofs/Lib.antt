@@ -1,4 +1,2 @@
-mod Digits
-mod Ends
 pub mod Laws
 pub mod Runs

@@ -14,7 +14,11 @@ both_fails : (t : Bool) → both t false ≡ false
 both_fails true = refl
 both_fails false = refl
 
--- ---- one byte
+-- ---- one byte, and none
+
+pub none_left : (most v : ℕ) → v ≤ most → read_on most v [] ≡ Some v
+unfolding read_on read_from
+none_left most v h = rw (le-leb v most h)
 
 pub digit_on : (most v b : ℕ) (rest : List ℕ) → 48 ≤ b → b ≤ 57 → read_on most v (b ∷ rest) ≡ read_on most (v * 10 + (b - 48)) rest
 unfolding read_on read_from

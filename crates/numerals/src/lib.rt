@@ -48,10 +48,9 @@ pub fn number_in(text: &[u8], most: u32) -> Option<u32>
 pub fn heat_in(text: &[u8]) -> Option<u32>
     ensures { result ≡ heat_in text.now }
 {
-    let (&first, rest) = text.split_first()?;
-    if first != b'-' {
+    let [b'-', rest @ ..] = text else {
         return number_in(text, 32_767);
-    }
+    };
     let below = number_in(rest, 32_768)?;
     if below == 0 {
         return None;

@@ -1,11 +1,14 @@
 -- `numerals::number_in` meets its contract: no digit is no number.
 -- Assumes nothing.
-use Rattle.numerals.proofs.Ends.{number_none, number_some}
-use borrow.Author.Rules.{rules}
+use Rattle.std.proofs.Common.{arith}
+use Rattle.std.proofs.lemmas.Grind.{common_steps}
+use Rattle.numerals.specs.Numerals.{number_in}
 use Rattle.numerals.proofs.number_in.Goals as goal
 
-pub returns-then-text-eq0 : goal.returns-then-text-eq0
-returns-then-text-eq0 c = search (number_none, rules)
+pub returns-then-is_empty : goal.returns-then-is_empty
+unfolding number_in
+returns-then-is_empty c = grind (arith, common_steps)
 
 pub returns : goal.returns
-returns c = search (number_some, rules)
+unfolding number_in
+returns c = grind (arith, common_steps)

@@ -1,19 +1,16 @@
-use Prim.Native.Nat.{◌-◌}
-use Rattle.numerals.proofs.Digits.{digit_read_lem, below_digits, above_digits, grown_wide, digits_end}
-use borrow.Author.Rules.{rules}
+use Rattle.std.proofs.Common.{arith}
+use Rattle.std.proofs.lemmas.Grind.{common_steps}
+use Rattle.numerals.proofs.Runs.{none_left, digit_on, digit_low, digit_high, too_wide}
 use Rattle.numerals.proofs.read_on.Goals as goal
 
-pub returns-then-b-lt48 : goal.returns-then-b-lt48
-returns-then-b-lt48 c = search (below_digits, rules)
-
-pub returns-then-b-gt57 : goal.returns-then-b-gt57
-returns-then-b-gt57 c = search (above_digits, rules)
+pub returns-then-not-is_ascii_digit : goal.returns-then-not-is_ascii_digit
+returns-then-not-is_ascii_digit c = grind (arith, common_steps, digit_low, digit_high)
 
 pub returns-then-most-value : goal.returns-then-most-value
-returns-then-most-value c = search (grown_wide, rules)
+returns-then-most-value c = grind (arith, common_steps, digit_on, too_wide)
 
-pub loop-i-preserved : goal.loop-i-preserved
-loop-i-preserved c = search (digit_read_lem, rules)
+pub loop-b-preserved : goal.loop-b-preserved
+loop-b-preserved c = grind (arith, common_steps, digit_on)
 
 pub returns : goal.returns
-returns c = search (digits_end, rules)
+returns c = grind (arith, common_steps, none_left)
