@@ -1,7 +1,7 @@
 -- A reading of the code's arrays is the reading of the printed table, for Tables 22 to 25: over any arrays that hold what is
 -- computed from it. A dense table's reading is its number's, and a number that no table of likely scenarios has is beyond.
 -- Assumes nothing.
-use Rattle.std.specs.Prelude.{Option, Some, None}
+use Rattle.std.specs.Prelude.{Option, None}
 use Prim.Native.Nat.{ℕ, zero, suc, ◌+◌, ◌-◌, ◌≤◌, ◌<◌}
 use native.Mathlib.Nat.{le_of_suc-le-suc, not-suc-le-zero}
 use native.Mathlib.Omega.{arith}
@@ -16,7 +16,7 @@ use Rattle.dispersion.specs.declared.Ground.{Ground}
 use Rattle.dispersion.specs.declared.Ground.TheVariants.{Rural, Urban}
 use Rattle.dispersion.specs.Tables.{lines, unprinted, column_of, rate_of, entry_of}
 use Rattle.interpolation.specs.declared.Likely.{Likely}
-use Rattle.interpolation.specs.Interpolation.{entry_read, likely_at, likely_by_row}
+use Rattle.interpolation.specs.Interpolation.{likely_at, likely_by_row}
 use Rattle.interpolation.proofs.Means.{carried_means}
 use Rattle.likely_dense.specs.PrintedDense.{rates18, endpoints18}
 use Rattle.likely_dense.specs.Columns.{dense_tables}
@@ -56,20 +56,7 @@ dense_reading table low high topography rate endpoint =
     let t : 18 + k ≡ table = omega arith in
     dense_table k (omega arith) topography rate endpoint ∙ ap (λ n. likely_reading n topography rate endpoint) t
 
--- the column of each ground
-module _ (rates rural urban : List ℕ) (topography : Ground) (rate : ℕ) (r : Option Likely) where
-  pub by_rural : topography ≡ Rural → r ≡ likely_at rates (λ i. get_or rural i 0) rate
-      → r ≡ likely_at rates (λ i. get_or (column_of topography rural urban) i 0) rate
-  by_rural e q = rw e q
-
-  pub by_urban : topography ≡ Urban → r ≡ likely_at rates (λ i. get_or urban i 0) rate
-      → r ≡ likely_at rates (λ i. get_or (column_of topography rural urban) i 0) rate
-  by_urban e q = rw e q
-
--- a range's entry, and a range once it is read
-pub range_entry : (found : Option Miles) (d : Miles) (n : ℕ) (l : Likely) → found ≡ Some d → n ≡ d.0 → l ≡ entry_read n → Some l ≡ range_read found
-range_entry found d n l e q h = ap Some (h ∙ ap entry_read q) ∙ sym (ap range_read e)
-
+-- a range once it is read
 pub range_is : (r : Option Likely) (found printed : Option Miles) → r ≡ range_read found → found ≡ printed → r ≡ range_read printed
 range_is r found printed e q = e ∙ ap range_read q
 
