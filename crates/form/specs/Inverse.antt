@@ -28,10 +28,10 @@ by_test {A} {P} n k {x} {y} {z} e here on = go (eqb n k) refl e
 not_refused_shape : {standing : Standing} {r : Refusal} → Err r ≡ Ok (shape.Toxic standing) → ⊥
 not_refused_shape e = let z : ◌≡◌ {A = ℕ} 0 1 = cc in clash z
 
-not_flammable_shape : {standing : Standing} → Ok shape.Flammable ≡ Ok (shape.Toxic standing) → ⊥
+not_flammable_shape : {standing : Standing} → ◌≡◌ {A = Result Shape Refusal} (Ok shape.Flammable) (Ok (shape.Toxic standing)) → ⊥
 not_flammable_shape e = let z : ◌≡◌ {A = ℕ} 0 1 = cc in clash z
 
-shape_is : {a b : Standing} → Ok (shape.Toxic a) ≡ Ok (shape.Toxic b) → a ≡ b
+shape_is : {a b : Standing} → ◌≡◌ {A = Result Shape Refusal} (Ok (shape.Toxic a)) (Ok (shape.Toxic b)) → a ≡ b
 shape_is e = cc
 
 heat_shape : (b : Bool) {a standing : Standing} → shaped_heat b a ≡ Ok (shape.Toxic standing) → a ≡ standing
@@ -71,7 +71,7 @@ toxic_shape f {standing} e = go (eqb f.kind 1) (eqb f.kind 2) refl e
     go false true p q = absurd (blank_shape (blank f) q)
     go false false p q = absurd (not_refused_shape q)
 
-not_toxic_blank : {standing : Standing} → Ok (shape.Toxic standing) ≡ Ok shape.Flammable → ⊥
+not_toxic_blank : {standing : Standing} → ◌≡◌ {A = Result Shape Refusal} (Ok (shape.Toxic standing)) (Ok shape.Flammable) → ⊥
 not_toxic_blank e = not_flammable_shape (sym e)
 
 heat_blank : (b : Bool) (a : Standing) → shaped_heat b a ≡ Ok shape.Flammable → ⊥

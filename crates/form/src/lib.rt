@@ -26,6 +26,7 @@ pub enum Shape {
 }
 
 // Byte 1, if it is listed.
+#[tactic(auto, unfolding(crate::specs::Form::state_of))]
 fn state_of(byte: u8) -> Option<State>
     ensures { result ≡ state_of byte }
 {
@@ -40,6 +41,7 @@ fn state_of(byte: u8) -> Option<State>
 }
 
 // Byte 2, if it is listed.
+#[tactic(auto, unfolding(crate::specs::Form::ground_of))]
 fn ground_of(byte: u8) -> Option<Ground>
     ensures { result ≡ ground_of byte }
 {
@@ -50,6 +52,7 @@ fn ground_of(byte: u8) -> Option<Ground>
     }
 }
 
+#[tactic(auto, unfolding(crate::specs::Form::open_of))]
 fn open_of(area: u32) -> Option<Containment>
     ensures { result ≡ Rattle.form.specs.Form.open_of area }
 {
@@ -60,6 +63,7 @@ fn open_of(area: u32) -> Option<Containment>
 }
 
 // Byte 3 with the area and the wall, if it is listed and leaves none of the two filled that it has no use for.
+#[tactic(auto, unfolding(crate::specs::Form::held_of))]
 fn held_of(byte: u8, area: u32, wall: u16) -> Option<Containment>
     ensures { result ≡ held_of byte area wall }
 {
@@ -111,15 +115,20 @@ fn toxic_shape(f: Fields) -> Result<Shape, Refusal>
 }
 
 // Whether all that a flammable card leaves blank is zero.
+#[tactic(auto, unfolding(crate::specs::Form::blank))]
 fn is_blank(f: Fields) -> bool
     ensures { result ≡ blank f }
 {
-    let heat = f.wall as u64 + f.heat as u64;
-    let around = f.containment as u64 + (f.area as u64 + heat);
-    f.state as u64 + (f.topography as u64 + around) == 0
+    f.state == 0
+        && f.topography == 0
+        && f.containment == 0
+        && f.area == 0
+        && f.wall == 0
+        && f.heat == 0
 }
 
 // What kind of card the bytes make.
+#[tactic(auto, unfolding(crate::specs::Form::shape_of))]
 pub fn shape_of(f: Fields) -> Result<Shape, Refusal>
     ensures { result ≡ shape_of f }
 {
