@@ -1,9 +1,9 @@
 -- Digits that are read on from a number: one byte, a number that is too wide, and one run of digits behind another.
 -- Assumes nothing.
-use Rattle.std.specs.Prelude.{ℕ, ◌+◌, ◌-◌, ◌*◌, ◌≤◌, ◌<◌, ◌≡◌, refl, List, [], ◌∷◌, ◌++◌, Bool, true, false, ◌⊎◌, leb, Some, None}
+use Rattle.std.specs.Prelude.{ℕ, ◌+◌, ◌-◌, ◌*◌, ◌≤◌, ◌<◌, ◌≡◌, refl, List, [], ◌∷◌, ◌++◌, Bool, true, false, ◌⊎◌, leb, Some, None, option_and_then}
 use Rattle.std.proofs.Common.{le_refl, le_trans, arith, sym, ap, ◌∙◌, inl, inr, ⊎_elim, le-leb, leb-false}
 use Rattle.std.proofs.lemmas.Bool.{lt-leb}
-use Rattle.search.specs.Laws.{clash, lt_or_ge}
+use Rattle.search.specs.Laws.{lt_or_ge}
 use Rattle.search.specs.Rising.{both}
 use Rattle.search.specs.Places.{every}
 use Rattle.decimal.specs.Decimal.{read_from}
@@ -55,30 +55,18 @@ digit_or_not b =
     (lt_or_ge 57 b))
     (lt_or_ge b 48)
 
--- where the first run is well formed, the second is read on from it
-pub runs_on : (most v : ℕ) (s t : List ℕ) {w : ℕ} → read_on most v s ≡ Some w → read_on most v (s ++ t) ≡ read_on most w t
+-- the second run is read on from the first, and where that is not well formed neither are the two
+pub runs : (most v : ℕ) (s t : List ℕ) → read_on most v (s ++ t) ≡ option_and_then (λ w. read_on most w t) (read_on most v s)
 unfolding read_on read_from
-runs_on most v [] t {w} e = go (leb v most) e
+runs most v [] t = go (leb v most) refl
   where
-    go : (b : Bool) → numbered b v ≡ Some w → read_on most v t ≡ read_on most w t
-    go true q = let same : v ≡ w = cc in ap (λ (k : ℕ). read_on most k t) same
-    go false q = let z : ◌≡◌ {A = ℕ} 0 1 = cc in clash z
-runs_on most v (b ∷ s) t {w} e = ⊎_elim
-    (λ d. digit_on most v b (s ++ t) d.0 d.1
-    ∙ runs_on most (v * 10 + (b - 48)) s t (sym (digit_on most v b s d.0 d.1) ∙ e))
-    (λ n. let q = sym (n most v s) ∙ e in let z : ◌≡◌ {A = ℕ} 0 1 = cc in clash z)
-    (digit_or_not b)
-
--- where it is not, neither are the two
-pub runs_out : (most v : ℕ) (s t : List ℕ) → read_on most v s ≡ None → read_on most v (s ++ t) ≡ None
-unfolding read_on read_from
-runs_out most v [] t e = go (leb v most) refl e
-  where
-    go : (b : Bool) → leb v most ≡ b → numbered b v ≡ None → read_on most v t ≡ None
-    go true p q = let z : ◌≡◌ {A = ℕ} 0 1 = cc in clash z
-    go false p q = too_wide most v t (leb-false v most p)
-runs_out most v (b ∷ s) t e = ⊎_elim
-    (λ d. digit_on most v b (s ++ t) d.0 d.1
-    ∙ runs_out most (v * 10 + (b - 48)) s t (sym (digit_on most v b s d.0 d.1) ∙ e))
-    (λ n. n most v (s ++ t))
+    go : (b : Bool) → leb v most ≡ b → read_on most v t ≡ option_and_then (λ w. read_on most w t) (numbered b v)
+    go true p = refl
+    go false p = too_wide most v t (leb-false v most p)
+runs most v (b ∷ s) t = ⊎_elim
+    (λ d.
+    digit_on most v b (s ++ t) d.0 d.1
+    ∙ runs most (v * 10 + (b - 48)) s t
+    ∙ ap (option_and_then (λ w. read_on most w t)) (sym (digit_on most v b s d.0 d.1)))
+    (λ n. n most v (s ++ t) ∙ ap (option_and_then (λ w. read_on most w t)) (sym (n most v s)))
     (digit_or_not b)

@@ -1,31 +1,22 @@
 // The number of a field by its form: a decimal number, a temperature, or a CAS number with its hyphens.
 #![tactic(auto)]
 
-ghost use Rattle.std.specs.Prelude.{◌≡◌, ◌≤◌, length};
-ghost use Rattle.numerals.specs.Numerals.{read_on, unhyphened, cas_in, value_in};
+ghost use Rattle.std.specs.Prelude.{◌≡◌};
+ghost use Rattle.numerals.specs.Numerals.{cas_in, value_in};
 
 use numerals::Form;
 
-// The three groups of a CAS number, one read on from the other.
-fn groups_in(text: &[u8]) -> Option<u32>
-    requires { 6 ≤ length text.now }
-    ensures { result ≡ read_on 4_294_967_295 0 (unhyphened text.now) }
+// A CAS number, its hyphens fifth and second from the end: its three groups, one read on from the other.
+fn cas_in(text: &[u8]) -> Option<u32>
+    ensures { result ≡ cas_in text.now }
 {
+    if !matches!(text, [_, .., b'-', _, _, b'-', _]) {
+        return None;
+    }
     let end = text.len();
     let first = numerals::read_on(&text[..end - 5], 0, numerals::FOUR_BYTES)?;
     let second = numerals::read_on(&text[end - 4..end - 2], first, numerals::FOUR_BYTES)?;
     numerals::read_on(&text[end - 1..], second, numerals::FOUR_BYTES)
-}
-
-// A CAS number, its hyphens fifth and second from the end.
-fn cas_in(text: &[u8]) -> Option<u32>
-    ensures { result ≡ cas_in text.now }
-{
-    let end = text.len();
-    if end < 6 || text[end - 5] != b'-' || text[end - 2] != b'-' {
-        return None;
-    }
-    groups_in(text)
 }
 
 // The number of a field, with spaces around it or none.

@@ -1,17 +1,20 @@
 -- `read_number::cas_in` meets its contract: too short, a hyphen missing, or the three groups.
 -- Assumes nothing.
-use Rattle.read_number.proofs.Ends.{cas_short, cas_first, cas_second, cas_read}
-use borrow.Author.Rules.{rules}
+use Rattle.std.proofs.Common.{arith}
+use Rattle.std.proofs.lemmas.Grind.{common_steps}
+use Rattle.numerals.specs.Numerals.{hyphened, cas_in}
+use Rattle.read_number.proofs.Ends.{cas_groups}
 use Rattle.read_number.proofs.cas_in.Goals as goal
 
-pub returns-then-end-lt6 : goal.returns-then-end-lt6
-returns-then-end-lt6 c = search (cas_short, rules)
+pub returns-then-not-matches : goal.returns-then-not-matches
+unfolding cas_in hyphened
+returns-then-not-matches c = grind (arith, common_steps)
 
-pub returns-then-text-end-ne45 : goal.returns-then-text-end-ne45
-returns-then-text-end-ne45 c = search (cas_first, rules)
+pub returns-in_err-first : goal.returns-in_err-first
+returns-in_err-first c = grind (arith, common_steps, cas_groups)
 
-pub returns-then-text-end-ne45-2 : goal.returns-then-text-end-ne45-2
-returns-then-text-end-ne45-2 c = search (cas_second, rules)
+pub returns-in_err-second : goal.returns-in_err-second
+returns-in_err-second c = grind (arith, common_steps, cas_groups)
 
 pub returns : goal.returns
-returns c = search (cas_read, rules)
+returns c = grind (arith, common_steps, cas_groups)
