@@ -64,11 +64,6 @@ bounds_of entry f =
     (bounds_if (bad_tenths (tenths_of f)) refusal.Temperature
     (bounds_if (is_out_of_range entry) refusal.Concentration (Ok (tenths_of f))))))
 
--- the refusal that the ranges give; the last of them where they give none
-abbrev pub bounds_refusal : Result Tenths Refusal → Refusal
-bounds_refusal (Ok t) = refusal.Concentration
-bounds_refusal (Err r) = r
-
 -- what numbers in range keep of document 01's limits
 abbrev pub BoundsLimits : Fields → Result Tenths Refusal → Type 0
 BoundsLimits f (Ok t) = f.pounds ≤ 10_000_000

@@ -9,36 +9,37 @@ use fields::Fields;
 use scenario::Tenths;
 
 // Of a flammable card the pounds are the one number that has a range.
+#[tactic(auto, unfolding(crate::specs::Ranges::bad_pounds))]
 pub fn bad_pounds(pounds: u32) -> bool
     ensures { result ≡ bad_pounds pounds }
 {
     !(1..=10_000_000).contains(&pounds)
 }
 
+#[tactic(auto, unfolding(crate::specs::Ranges::bad_area))]
 pub fn bad_area(containment: u8, area: u32) -> bool
     ensures { result ≡ bad_area containment area }
 {
     containment != 0 && !(1..=1_000_000).contains(&area)
 }
 
+#[tactic(auto, unfolding(crate::specs::Ranges::bad_heat))]
 fn bad_heat(tenths: i16) -> bool
     ensures { result ≡ bad_heat tenths }
 {
-    factors::below(tenths, -500) || factors::below(3000, tenths)
+    !(-500..=3000).contains(&tenths)
 }
 
 // Two's complement.
+#[tactic(auto, unfolding(crate::specs::Ranges::signed))]
 fn to_signed(heat: u16) -> i16
     ensures { result ≡ signed heat }
 {
-    if heat < 32768 {
-        heat as i16
-    } else {
-        -1 - (65535 - heat) as i16
-    }
+    heat.cast_signed()
 }
 
 // What bytes 18 and 19 are: in state 5 a concentration, else a temperature.
+#[tactic(auto, unfolding(crate::specs::Ranges::tenths_of))]
 pub fn tenths_of(f: Fields) -> Tenths
     ensures { result ≡ tenths_of f }
 {
