@@ -10,6 +10,7 @@ use refusals::Refusal;
 use scenario::Tenths;
 
 // The ranges of a toxic card's numbers, in turn, and its temperature or concentration where all of them are kept to.
+#[tactic(auto, using(ranges::proofs::Laws::pounds_within), unfolding(ranges::specs::Ranges::bounds_of, ranges::specs::Ranges::bad_wall))]
 pub fn bounds_of(f: Fields, entry: Toxic) -> Result<Tenths, Refusal>
     ensures value { result ≡ bounds_of entry f }
     ensures bounds_limits { BoundsLimits f result }
