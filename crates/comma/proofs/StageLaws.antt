@@ -64,9 +64,8 @@ module _ (text : List ℕ) (at : ℕ) where
     where
       valued : (v : Option ℕ) → placed v (end_at text at + 1) ≡ Some (n, behind) → and v (λ m. further m (fields_in (drop (end_at text at + 1) text))) ≡ further n (fields_in (drop behind text))
       valued (Some m) q =
-          let same : m ≡ n = cc in
-          let place : end_at text at + 1 ≡ behind = cc in
-          ap (λ (k : ℕ). further k (fields_in (drop (end_at text at + 1) text))) same ∙ ap (λ (k : ℕ). further n (fields_in (drop k text))) place
+          let pair : ◌≡◌ {A = ℕ × ℕ} (m, end_at text at + 1) (n, behind) = cc in
+          ap (λ (p : ℕ × ℕ). further p.0 (fields_in (drop p.1 text))) pair
       valued None q = let z : ◌≡◌ {A = ℕ} 0 1 = cc in clash z
 
       ended : end_at text at < length text → next form (fields_in (drop at text)) further ≡ further n (fields_in (drop behind text))
