@@ -1,14 +1,26 @@
 -- `read_field::take_field` meets its contract: the bytes up to the next comma, where there is one.
 -- Assumes nothing.
-use Rattle.read_field.proofs.Ends.{field_unended, field_bad, field_good}
-use borrow.Author.Rules.{rules}
+use Rattle.std.specs.Prelude.{ℕ, ◌+◌, ◌-◌, ◌≡◌, List, length, take, drop}
+use Rattle.std.proofs.Common.{arith}
+use Rattle.std.proofs.lemmas.Grind.{common_steps}
+use Rattle.pieces.specs.Pieces.{before}
+use Rattle.pieces.proofs.Laws.{before_take}
+use Rattle.comma.specs.Stages.{taken_at}
 use Rattle.read_field.proofs.take_field.Goals as goal
 
-pub returns-then-line-end : goal.returns-then-line-end
-returns-then-line-end c = search (field_unended, rules)
+field_is : (text : List ℕ) (at end : ℕ) → end ≡ at + length (before 44 (drop at text)) → take (end - at) (drop at text) ≡ before 44 (drop at text)
+field_is text at end e =
+    let size : end - at ≡ length (before 44 (drop at text)) = omega arith in
+    rw size (before_take 44 (drop at text))
 
-pub returns-in_default : goal.returns-in_default
-returns-in_default c = search (field_bad, rules)
+pub returns-then-line-end : goal.returns-then-line-end
+unfolding taken_at
+returns-then-line-end c = grind (arith, common_steps)
+
+pub returns-in_err-number : goal.returns-in_err-number
+unfolding taken_at
+returns-in_err-number c = grind (arith, common_steps, field_is)
 
 pub returns : goal.returns
-returns c = search (field_good, rules)
+unfolding taken_at
+returns c = grind (arith, common_steps, field_is)

@@ -1,11 +1,13 @@
 -- `read_field::tenths_form` meets its contract: by the number of the state.
 -- Assumes nothing.
-use Rattle.read_field.proofs.Ends.{concentration, temperature}
-use borrow.Author.Rules.{rules}
+use Rattle.std.proofs.Common.{rules}
+use Rattle.comma.specs.Line.{tenths_form}
 use Rattle.read_field.proofs.tenths_form.Goals as goal
 
-pub returns-then-state-eq5 : goal.returns-then-state-eq5
-returns-then-state-eq5 c = search (concentration, rules)
+pub returns-in-5 : goal.returns-in-5
+unfolding tenths_form
+returns-in-5 c = search rules
 
-pub returns : goal.returns
-returns c = search (temperature, rules)
+pub returns-in_default : goal.returns-in_default
+unfolding tenths_form
+returns-in_default c = search rules
