@@ -49,7 +49,7 @@ not_refused_toxic e = let z : ◌≡◌ {A = ℕ} 0 1 = cc in clash z
 not_refused_flammable : {card : FlammableCard} {r : Refusal} → Ok (meaning.Flammable card) ≡ Err r → ⊥
 not_refused_flammable e = let z : ◌≡◌ {A = ℕ} 0 1 = cc in clash z
 
-not_flammable_toxic : {a : FlammableCard} {b : ToxicCard} → Ok (meaning.Flammable a) ≡ Ok (meaning.Toxic b) → ⊥
+not_flammable_toxic : {a : FlammableCard} {b : ToxicCard} → ◌≡◌ {A = Result Meaning Refusal} (Ok (meaning.Flammable a)) (Ok (meaning.Toxic b)) → ⊥
 not_flammable_toxic e = let z : ◌≡◌ {A = ℕ} 0 1 = cc in clash z
 
 -- the temperature, or the concentration, of numbers in range
@@ -57,7 +57,7 @@ bounds_passed : (b : Bool) (r : Refusal) (m : Result Tenths Refusal) {t : Tenths
 bounds_passed true r m {t} e = let z : ◌≡◌ {A = ℕ} 0 1 = cc in clash z
 bounds_passed false r m e = e
 
-within_is : {a b : Tenths} → Ok a ≡ Ok b → a ≡ b
+within_is : {a b : Tenths} → ◌≡◌ {A = Result Tenths Refusal} (Ok a) (Ok b) → a ≡ b
 within_is e = cc
 
 bounds_tenths : (entry : Toxic) (f : Fields) {t : Tenths} → bounds_of entry f ≡ Ok t → tenths_of f ≡ t
@@ -69,7 +69,7 @@ bounds_tenths entry f e =
     let heat = bounds_passed (bad_tenths (tenths_of f)) _ _ wall in
     within_is (bounds_passed (is_out_of_range entry) _ _ heat)
 
-toxic_is : {a b : ToxicCard} → Ok (meaning.Toxic a) ≡ Ok (meaning.Toxic b) → a ≡ b
+toxic_is : {a b : ToxicCard} → ◌≡◌ {A = Result Meaning Refusal} (Ok (meaning.Toxic a)) (Ok (meaning.Toxic b)) → a ≡ b
 toxic_is e = cc
 
 -- a toxic card tells how its vessel stands, its substance and its numbers
@@ -138,7 +138,7 @@ toxic_from f last e =
     (passed (bad_number f.number last) refusal.Number (shaped (shape_of f) f) e not_refused_toxic)
 
 -- a flammable meaning tells its fields
-flammable_is : {a b : FlammableCard} → Ok (meaning.Flammable a) ≡ Ok (meaning.Flammable b) → a ≡ b
+flammable_is : {a b : FlammableCard} → ◌≡◌ {A = Result Meaning Refusal} (Ok (meaning.Flammable a)) (Ok (meaning.Flammable b)) → a ≡ b
 flammable_is e = cc
 
 toxic_not_flammable : (b : Result Tenths Refusal) (f : Fields) (entry : Toxic) (standing : Standing) {card : FlammableCard} → toxic_bounded b f entry standing ≡ Ok (meaning.Flammable card) → ⊥

@@ -30,7 +30,6 @@ use Rattle.form.specs.Same.{state_in, state_byte, ground_in, ground_byte_lem, he
 use Rattle.ranges.specs.Ranges.{bad_pounds, bad_area, bad_wall, tenths_of, bad_tenths, is_out_of_range, bounds_if, bounds_of}
 use Rattle.ranges.proofs.Laws.{pounds_within, wall_within, heat_within, area_within}
 use Rattle.meaning.specs.declared.Meaning.{Meaning}
-use Rattle.meaning.specs.declared.Meaning.TheVariants as meaning
 use Rattle.meaning.specs.States.{by_state}
 use Rattle.meaning.specs.Reading.{bad_number, substance_of, toxic_bounded, is_listed, meaning_if, toxic_meaning, flammable_of, shaped, meaning_of}
 

@@ -25,6 +25,7 @@ pub enum Meaning {
     Flammable(FlammableCard),
 }
 
+#[tactic(auto, unfolding(crate::specs::Reading::bad_number))]
 fn bad_number(number: u32, last: u32) -> bool
     ensures { result ≡ bad_number number last }
 {
@@ -32,6 +33,7 @@ fn bad_number(number: u32, last: u32) -> bool
 }
 
 // What the exhibits say of a toxic card: B-3 of a solution at its concentration, else B-1 or B-2.
+#[tactic(auto, unfolding(crate::specs::Reading::substance_of))]
 fn substance_of(f: Fields) -> Toxic
     ensures { result ≡ substance_of f }
 {
@@ -48,6 +50,7 @@ fn is_listed(entry: Toxic) -> bool
 }
 
 // A toxic card's meaning: its substance is listed and its numbers are in range.
+#[tactic(auto, unfolding(crate::specs::Reading::toxic_meaning))]
 pub fn toxic_meaning(f: Fields, standing: Standing) -> Result<Meaning, Refusal>
     ensures value { result ≡ toxic_meaning (substance_of f) f standing }
     ensures meaning_limits { MeaningLimits result }
@@ -69,6 +72,7 @@ pub fn toxic_meaning(f: Fields, standing: Standing) -> Result<Meaning, Refusal>
 }
 
 // A flammable card's meaning.
+#[tactic(auto, unfolding(crate::specs::Reading::flammable_of))]
 fn flammable_meaning(f: Fields) -> Result<Meaning, Refusal>
     ensures value { result ≡ flammable_of f }
     ensures meaning_limits { MeaningLimits result }
@@ -86,6 +90,7 @@ fn flammable_meaning(f: Fields) -> Result<Meaning, Refusal>
 }
 
 // What a card means after the last card's number, or the first refusal whose condition holds.
+#[tactic(auto, unfolding(crate::specs::Reading::meaning_of))]
 pub fn meaning_of(f: Fields, last: u32) -> Result<Meaning, Refusal>
     ensures value { result ≡ meaning_of f last }
     ensures meaning_limits { MeaningLimits result }
