@@ -12,7 +12,7 @@ use Rattle.card.specs.declared.Answer.{Answer}
 use Rattle.card.specs.Answers.{answer_of}
 use Rattle.encode.specs.Bytes.{answer_bytes}
 use Rattle.encode.specs.Laws.{length_answer}
-use Rattle.header.specs.Header.{header_of, header_refusal, HeaderFits, Fitting}
+use Rattle.header.specs.Header.{header_of, HeaderFits, Fitting}
 use Rattle.cards.specs.Register.{Cards, answers, sent_back, joined, then, cards_from, cards_of, result_of, after_header, outcome_of, bytes_of, filled_with, filled_after, buffer_of}
 
 -- where one answer more in front gives cards that are all answered, the cards behind it are
@@ -50,10 +50,9 @@ behind_header bytes = take_all (length bytes - 7) (drop 7 bytes) (omega (arith, 
 
 -- the whole call, from its header on
 module _ (bytes : List ℕ) (room : ℕ) (h : Result ℕ Refusal) (e : h ≡ header_of bytes room) where
-  pub header_refused : (r s : Refusal) → h ≡ Err r → s ≡ header_refusal h → Err (refused_at s 0) ≡ outcome_of bytes room
+  pub header_refused : (r : Refusal) → h ≡ Err r → Err (refused_at r 0) ≡ outcome_of bytes room
   unfolding outcome_of
-  header_refused r s q g =
-      ap (λ y. Err (refused_at y 0)) (g ∙ ap header_refusal q) ∙ ap (λ y. after_header y bytes) (sym q ∙ e)
+  header_refused r q = ap (λ y. after_header y bytes) (sym q ∙ e)
 
   pub header_good : (n : ℕ) (r : Result Leaders (SentBack ℕ)) → h ≡ Ok n → r ≡ result_of (cards_from n 0 0 (take (length bytes - 7) (drop 7 bytes))) → r ≡ outcome_of bytes room
   unfolding outcome_of cards_of

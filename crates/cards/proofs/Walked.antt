@@ -12,84 +12,83 @@ use Rattle.farthest.specs.Farthest.{leaders_of}
 use Rattle.running.specs.declared.Running.{Running}
 use Rattle.running.specs.Running.{before_cards, after_card, step_to, step_of, running_after}
 use Rattle.running.proofs.Laws.{running_leaders}
-use Rattle.walk.specs.declared.Writes.{Writes}
-use Rattle.walk.specs.Walk.{text_of, texts_of, go_on, walk_from, write_on, text_from, end_of}
+use Rattle.walk.specs.Walk.{texts_of, go_on, walk_from, write_on, text_from, end_of}
 use Rattle.cards.specs.Register.{Cards, answers, sent_back, joined, then, cards_from, result_of}
 use Rattle.cards.proofs.Laws.{joined_is}
 
 -- what a walk from running values and a position on ends with, where its cards come to this
-abbrev walked_as : Writes → Running → ℕ → Cards → Result (Running × ℕ) (SentBack ℕ)
-walked_as w s at (answers xs) = Ok (running_after s xs, at + length (texts_of w xs))
-walked_as w s at (sent_back r place) = Err (refused_at r place)
+abbrev walked_as : (Answer → List ℕ) → Running → ℕ → Cards → Result (Running × ℕ) (SentBack ℕ)
+walked_as told s at (answers xs) = Ok (running_after s xs, at + length (texts_of told xs))
+walked_as told s at (sent_back r place) = Err (refused_at r place)
 
-walked_joined : (w : Writes) (s : Running) (at : ℕ) (a : Answer) (c : Cards) → walked_as w (after_card s a) (at + length (text_of w a)) c ≡ walked_as w s at (joined a c)
+walked_joined : (told : Answer → List ℕ) (s : Running) (at : ℕ) (a : Answer) (c : Cards) → walked_as told (after_card s a) (at + length (told a)) c ≡ walked_as told s at (joined a c)
 unfolding running_after texts_of
-walked_joined w s at a (answers xs) = ap (walked.On (running_after (after_card s a) xs)) (omega (arith, length-append (text_of w a) (texts_of w xs)))
-walked_joined w s at a (sent_back r place) = refl
+walked_joined told s at a (answers xs) = ap (λ n. Ok (running_after (after_card s a) xs, n)) (omega (arith, length-append (told a) (texts_of told xs)))
+walked_joined told s at a (sent_back r place) = refl
 
-walk_is : (w : Writes) (n : ℕ) (s : Running) (at : ℕ) (bytes : List ℕ) → walk_from w n s at bytes ≡ walked_as w s at (cards_from n s.place s.last bytes)
+walk_is : (told : Answer → List ℕ) (n : ℕ) (s : Running) (at : ℕ) (bytes : List ℕ) → walk_from told n s at bytes ≡ walked_as told s at (cards_from n s.place s.last bytes)
 unfolding walk_from step_of cards_from running_after texts_of
-walk_is w zero s at bytes = ap (walked.On s) (sym (add-zero at))
-walk_is w (suc n) s at bytes =
-    go (answer_of (take 24 bytes) s.last) (λ a. walk_is w n (after_card s a) (at + length (text_of w a)) (drop 24 bytes))
+walk_is told zero s at bytes = ap (λ n. Ok (s, n)) (sym (add-zero at))
+walk_is told (suc n) s at bytes =
+    go (answer_of (take 24 bytes) s.last) (λ a. walk_is told n (after_card s a) (at + length (told a)) (drop 24 bytes))
   where
-    go : (x : Result Answer Refusal) → ((a : Answer) → walk_from w n (after_card s a) (at + length (text_of w a)) (drop 24 bytes) ≡ walked_as w (after_card s a) (at + length (text_of w a)) (cards_from n (suc s.place) a.number (drop 24 bytes)))
-        → go_on (step_to x s) (λ t a. walk_from w n t (at + length (text_of w a)) (drop 24 bytes)) ≡ walked_as w s at (then x s.place (λ k. cards_from n (suc s.place) k (drop 24 bytes)))
-    go (Ok a) ih = ih a ∙ walked_joined w s at a (cards_from n (suc s.place) a.number (drop 24 bytes))
+    go : (x : Result Answer Refusal) → ((a : Answer) → walk_from told n (after_card s a) (at + length (told a)) (drop 24 bytes) ≡ walked_as told (after_card s a) (at + length (told a)) (cards_from n (suc s.place) a.number (drop 24 bytes)))
+        → go_on (step_to x s) (λ t a. walk_from told n t (at + length (told a)) (drop 24 bytes)) ≡ walked_as told s at (then x s.place (λ k. cards_from n (suc s.place) k (drop 24 bytes)))
+    go (Ok a) ih = ih a ∙ walked_joined told s at a (cards_from n (suc s.place) a.number (drop 24 bytes))
     go (Err r) ih = refl
 
 -- of cards that are all answered, the texts are written one after the other
-pub text_is : (w : Writes) (n : ℕ) (s : Running) (bytes : List ℕ) (xs : List Answer) → cards_from n s.place s.last bytes ≡ answers xs → text_from w n s bytes ≡ texts_of w xs
+pub text_is : (told : Answer → List ℕ) (n : ℕ) (s : Running) (bytes : List ℕ) (xs : List Answer) → cards_from n s.place s.last bytes ≡ answers xs → text_from told n s bytes ≡ texts_of told xs
 unfolding text_from step_of cards_from texts_of
-text_is w zero s bytes [] e = refl
-text_is w zero s bytes (x ∷ xs) e = let z : ◌≡◌ {A = ℕ} 0 1 = cc in clash z
-text_is w (suc n) s bytes xs e =
-    go (answer_of (take 24 bytes) s.last) (λ a ys. text_is w n (after_card s a) (drop 24 bytes) ys) e
+text_is told zero s bytes [] e = refl
+text_is told zero s bytes (x ∷ xs) e = let z : ◌≡◌ {A = ℕ} 0 1 = cc in clash z
+text_is told (suc n) s bytes xs e =
+    go (answer_of (take 24 bytes) s.last) (λ a ys. text_is told n (after_card s a) (drop 24 bytes) ys) e
   where
-    go : (x : Result Answer Refusal) → ((a : Answer) (ys : List Answer) → cards_from n (suc s.place) a.number (drop 24 bytes) ≡ answers ys → text_from w n (after_card s a) (drop 24 bytes) ≡ texts_of w ys)
-        → then x s.place (λ k. cards_from n (suc s.place) k (drop 24 bytes)) ≡ answers xs → write_on (step_to x s) (λ t a. text_of w a ++ text_from w n t (drop 24 bytes)) ≡ texts_of w xs
+    go : (x : Result Answer Refusal) → ((a : Answer) (ys : List Answer) → cards_from n (suc s.place) a.number (drop 24 bytes) ≡ answers ys → text_from told n (after_card s a) (drop 24 bytes) ≡ texts_of told ys)
+        → then x s.place (λ k. cards_from n (suc s.place) k (drop 24 bytes)) ≡ answers xs → write_on (step_to x s) (λ t a. told a ++ text_from told n t (drop 24 bytes)) ≡ texts_of told xs
     go (Ok a) ih q =
         let j = joined_is a (cards_from n (suc s.place) a.number (drop 24 bytes)) q in
-        ap (λ text. text_of w a ++ text) (ih a j.0 j.1) ∙ ap (texts_of w) j.2
+        ap (λ (rest : List ℕ). told a ++ rest) (ih a j.0 j.1) ∙ ap (texts_of told) j.2
     go (Err r) ih q = let z : ◌≡◌ {A = ℕ} 0 1 = cc in clash z
 
 -- What callers use of a walk: where it came to its end, every card of it is answered, the running values are those after the answers,
 -- and what is written are their texts, of this size;
-pub record Passed (w : Writes) (n : ℕ) (s : Running) (bytes : List ℕ) (t : Running) (size : ℕ) : Type 0 where
+pub record Passed (told : Answer → List ℕ) (n : ℕ) (s : Running) (bytes : List ℕ) (t : Running) (size : ℕ) : Type 0 where
   pub list : List Answer
   pub cards : cards_from n s.place s.last bytes ≡ answers list
   pub running : running_after s list ≡ t
-  pub text : text_from w n s bytes ≡ texts_of w list
-  pub sized : size ≡ length (texts_of w list)
+  pub text : text_from told n s bytes ≡ texts_of told list
+  pub sized : size ≡ length (texts_of told list)
 
-module _ (w : Writes) (n : ℕ) (s : Running) (bytes : List ℕ) where
-  pub passed : (t : Running) (size : ℕ) → walk_from w n s 0 bytes ≡ Ok (t, size) → Passed w n s bytes t size
-  passed t size e = go (cards_from n s.place s.last bytes) refl (sym (walk_is w n s 0 bytes) ∙ e)
+module _ (told : Answer → List ℕ) (n : ℕ) (s : Running) (bytes : List ℕ) where
+  pub passed : (t : Running) (size : ℕ) → walk_from told n s 0 bytes ≡ Ok (t, size) → Passed told n s bytes t size
+  passed t size e = go (cards_from n s.place s.last bytes) refl (sym (walk_is told n s 0 bytes) ∙ e)
     where
-      go : (c : Cards) → cards_from n s.place s.last bytes ≡ c → walked_as w s 0 c ≡ Ok (t, size) → Passed w n s bytes t size
+      go : (c : Cards) → cards_from n s.place s.last bytes ≡ c → walked_as told s 0 c ≡ Ok (t, size) → Passed told n s bytes t size
       go (answers xs) q u =
-          let z : 0 + length (texts_of w xs) ≡ size = cc in
-          record { list = xs; cards = q; running = cc; text = text_is w n s bytes xs q; sized = omega arith }
+          let z : 0 + length (texts_of told xs) ≡ size = cc in
+          record { list = xs; cards = q; running = cc; text = text_is told n s bytes xs q; sized = omega arith }
       go (sent_back r place) q u = clash (cc)
 
   -- and where it stopped, the cards are sent back there
-  pub stopped : (r : Refusal) (place : ℕ) → walk_from w n s 0 bytes ≡ Err (refused_at r place) → cards_from n s.place s.last bytes ≡ sent_back r place
-  stopped r place e = go (cards_from n s.place s.last bytes) (sym (walk_is w n s 0 bytes) ∙ e)
+  pub stopped : (sent : SentBack ℕ) → walk_from told n s 0 bytes ≡ Err sent → cards_from n s.place s.last bytes ≡ sent_back sent.refusal sent.place
+  stopped sent e = go (cards_from n s.place s.last bytes) (sym (walk_is told n s 0 bytes) ∙ e)
     where
-      go : (c : Cards) → walked_as w s 0 c ≡ Err (refused_at r place) → c ≡ sent_back r place
+      go : (c : Cards) → walked_as told s 0 c ≡ Err sent → c ≡ sent_back sent.refusal sent.place
       go (answers xs) u = clash (cc)
       go (sent_back t k) u = cc
 
 -- the leaders after a walk from the first card on
-pub passed_leaders : (w : Writes) (n : ℕ) (bytes : List ℕ) (t : Running) (size : ℕ) (p : Passed w n before_cards bytes t size) → t.leaders ≡ leaders_of p.list
+pub passed_leaders : (told : Answer → List ℕ) (n : ℕ) (bytes : List ℕ) (t : Running) (size : ℕ) (p : Passed told n before_cards bytes t size) → t.leaders ≡ leaders_of p.list
 unfolding leaders_of
-passed_leaders w n bytes t size p = ap (λ (u : Running). u.leaders) (sym p.running) ∙ running_leaders before_cards p.list
+passed_leaders told n bytes t size p = ap (λ (u : Running). u.leaders) (sym p.running) ∙ running_leaders before_cards p.list
 
 -- the end of a walk through all cards is the call's answer
-pub end_result : (w : Writes) (n : ℕ) (bytes : List ℕ) → end_of (walk_from w n before_cards 0 bytes) ≡ result_of (cards_from n 0 0 bytes)
+pub end_result : (told : Answer → List ℕ) (n : ℕ) (bytes : List ℕ) → end_of (walk_from told n before_cards 0 bytes) ≡ result_of (cards_from n 0 0 bytes)
 unfolding leaders_of
-end_result w n bytes = ap end_of (walk_is w n before_cards 0 bytes) ∙ go (cards_from n 0 0 bytes)
+end_result told n bytes = ap end_of (walk_is told n before_cards 0 bytes) ∙ go (cards_from n 0 0 bytes)
   where
-    go : (c : Cards) → end_of (walked_as w before_cards 0 c) ≡ result_of c
+    go : (c : Cards) → end_of (walked_as told before_cards 0 c) ≡ result_of c
     go (answers xs) = ap Ok (running_leaders before_cards xs)
     go (sent_back r place) = refl

@@ -6,7 +6,7 @@ ghost use Rattle.cards.specs.Register.{cards_from, result_of, filled_with};
 
 use farthest::Leaders;
 use refusals::SentBack;
-use walk::Writes;
+use walk::Answers;
 
 // The cards are walked once, into a buffer that nobody but the caller sees, and what it holds is copied where no card was refused: so
 // every card is checked before a byte of the lent buffer is written.
@@ -20,7 +20,7 @@ pub fn answer_through(
     ensures value { result ≡ result_of (cards_from count 0 0 cards.now) }
     ensures answers_after { answers.new ≡ filled_with (cards_from count 0 0 cards.now) answers.old }
 {
-    let (running, size) = walk::through(cards, count, Writes::Answers, scratch)?;
+    let (running, size) = walk::through::<Answers>(cards, count, scratch)?;
     buffer::put_text(answers, 0, &scratch[..size]);
     Ok(running.leaders)
 }
@@ -31,6 +31,6 @@ pub fn answer_one(cards: &[u8], count: usize, answers: &mut [u8]) -> Result<Lead
     ensures value { result ≡ result_of (cards_from count 0 0 cards.now) }
     ensures answers_after { answers.new ≡ filled_with (cards_from count 0 0 cards.now) answers.old }
 {
-    let walked = walk::through(cards, count, Writes::Answers, answers);
+    let walked = walk::through::<Answers>(cards, count, answers);
     walk::outcome_of(walked)
 }

@@ -36,12 +36,13 @@ pub fn no_leaders() -> Leaders
 fn overtake(leader: Option<Leader>, answer: Answer) -> Option<Leader>
     ensures { result ≡ farther leader answer }
 {
+    let next = Leader {
+        number: answer.number,
+        distance: answer.distance,
+    };
     match leader {
         Some(best) if answer.distance <= best.distance => Some(best),
-        _ => Some(Leader {
-            number: answer.number,
-            distance: answer.distance,
-        }),
+        _ => Some(next),
     }
 }
 

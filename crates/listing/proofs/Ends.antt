@@ -16,7 +16,7 @@ use Rattle.farthest.specs.declared.Leaders.{Leaders}
 use Rattle.header.specs.Header.{enough, header_of}
 use Rattle.running.specs.declared.Running.{Running}
 use Rattle.running.specs.Running.{before_cards}
-use Rattle.walk.specs.declared.Writes.TheVariants as writes
+use Rattle.lines.specs.Lines.{card_line}
 use Rattle.walk.specs.Walk.{walk_from, text_from}
 use Rattle.walk.specs.Walk.{Within as Reached}
 use Rattle.cards.specs.Register.{outcome_of}
@@ -33,18 +33,18 @@ module _ {b₀ b₁ b₂ : List ℕ} {at mid end : ℕ} where
   unfolding leader_lines
   leaders_line l toxic flammable = joined toxic flammable
 
-module _ {out after : List ℕ} {end : ℕ} (bytes : List ℕ) (n : ℕ) (h : Result ℕ Refusal) (e : h ≡ header_of bytes enough) (good : h ≡ Ok n) (x : Result (Running × ℕ) (SentBack ℕ)) (w : x ≡ walk_from writes.Lines n before_cards 0 (take (length bytes - 7) (drop 7 bytes))) where
+module _ {out after : List ℕ} {end : ℕ} (bytes : List ℕ) (n : ℕ) (h : Result ℕ Refusal) (e : h ≡ header_of bytes enough) (good : h ≡ Ok n) (x : Result (Running × ℕ) (SentBack ℕ)) (w : x ≡ walk_from card_line n before_cards 0 (take (length bytes - 7) (drop 7 bytes))) where
   -- the cards' lines, and the leaders' behind them
   pub accepted_lines : {lined : List ℕ} (t : Running) (size : ℕ) → x ≡ Ok (t, size)
-      → lined ≡ sets out 0 (text_from writes.Lines n before_cards (take (length bytes - 7) (drop 7 bytes)))
+      → lined ≡ sets out 0 (text_from card_line n before_cards (take (length bytes - 7) (drop 7 bytes)))
       → Wrote lined after size end (leader_lines t.leaders) → Wrote out after 0 end (listed_after (header_of bytes enough) bytes)
   accepted_lines t size q cards leaders =
-      let p = passed writes.Lines n before_cards (take (length bytes - 7) (drop 7 bytes)) t size (sym w ∙ q) in
+      let p = passed card_line n before_cards (take (length bytes - 7) (drop 7 bytes)) t size (sym w ∙ q) in
       subst (Wrote out after 0 end) (accepted_text bytes n (sym e ∙ good) t size p)
-      (joined {s = text_from writes.Lines n before_cards (take (length bytes - 7) (drop 7 bytes))} (record { place = omega (arith, p.sized, ap length p.text); bytes = cards }) leaders)
+      (joined {s = text_from card_line n before_cards (take (length bytes - 7) (drop 7 bytes))} (record { place = omega (arith, p.sized, ap length p.text); bytes = cards }) leaders)
 
-  pub never_stopped : (r : Refusal) (place : ℕ) → x ≡ Err (refused_at r place) → IsAccepted (outcome_of bytes enough) → Wrote out after 0 end (listed_after (header_of bytes enough) bytes)
-  never_stopped r place q o = accepted_walk bytes n (sym e ∙ good) r place o (sym w ∙ q)
+  pub never_stopped : (sent : SentBack ℕ) → x ≡ Err sent → IsAccepted (outcome_of bytes enough) → Wrote out after 0 end (listed_after (header_of bytes enough) bytes)
+  never_stopped sent q o = accepted_walk bytes n (sym e ∙ good) sent o (sym w ∙ q)
 
 -- 128 bytes a card: 2,000 cards have room, and the leaders behind them
 pub lines_room : (n : ℕ) (out : List ℕ) → n ≤ 2_000 → listing_room ≤ length out → 128 * n ≤ length out
@@ -61,9 +61,9 @@ module _ {before after : List ℕ} {at end : ℕ} (bytes : List ℕ) where
   pub never_refused : {r : Refusal} (h : Result ℕ Refusal) → h ≡ header_of bytes enough → h ≡ Err r → IsAccepted (outcome_of bytes enough) → Wrote before after at end (listed_after (header_of bytes enough) bytes)
   never_refused h e q o = accepted_header bytes o (sym e ∙ q)
 
-  pub sent_back_line : (x : Result Leaders (SentBack ℕ)) (r : Refusal) (number place : ℕ) → x ≡ outcome_of bytes enough → x ≡ Err (refused_at r place) → number ≡ number_of r → Wrote before after at end (refused_line number place) → Wrote before after at end (listed_after (header_of bytes enough) bytes)
-  sent_back_line x r number place e q g line =
-      subst (Wrote before after at end) (ap (λ n. refused_line n place) g ∙ sent_back_text bytes (sym e ∙ q)) line
+  pub sent_back_line : (x : Result Leaders (SentBack ℕ)) (sent : SentBack ℕ) (number : ℕ) → x ≡ outcome_of bytes enough → x ≡ Err sent → number ≡ number_of sent.refusal → Wrote before after at end (refused_line number sent.place) → Wrote before after at end (listed_after (header_of bytes enough) bytes)
+  sent_back_line x sent number e q g line =
+      subst (Wrote before after at end) (ap (λ n. refused_line n sent.place) g ∙ sent_back_text bytes (sym e ∙ q)) line
 
 module _ (bytes out : List ℕ) where
   pub no_room : length out < listing_room → None ≡ listed_of bytes (length out)

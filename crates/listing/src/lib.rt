@@ -11,7 +11,7 @@ ghost use Rattle.listing.specs.Laws.{IsAccepted};
 
 use farthest::Leaders;
 use refusals::SentBack;
-use walk::Writes;
+use walk::Lines;
 
 // The longest register that can be accepted: the header and 2,000 cards.
 const LONGEST: usize = 48_007;
@@ -39,7 +39,7 @@ fn put_accepted(register: &[u8], out: &mut [u8]) -> usize
     let Ok(count) = header::header_of(register, header::ENOUGH) else {
         return 0;
     };
-    let Ok((running, behind)) = walk::through(&register[7..], count, Writes::Lines, out) else {
+    let Ok((running, behind)) = walk::through::<Lines>(&register[7..], count, out) else {
         return 0;
     };
     put_leaders(out, behind, running.leaders)

@@ -13,12 +13,11 @@ use lib.Seq.{take_at}
 use Rattle.refusals.specs.declared.Refusal.{Refusal}
 use Rattle.card.specs.declared.Answer.{Answer}
 use Rattle.farthest.specs.Farthest.{leaders_of}
-use Rattle.header.specs.Header.{enough, header_of, header_refusal}
+use Rattle.header.specs.Header.{enough, header_of}
 use Rattle.running.specs.declared.Running.{Running}
 use Rattle.running.specs.Running.{before_cards}
 use Rattle.running.proofs.Laws.{running_place}
-use Rattle.walk.specs.declared.Writes.TheVariants as writes
-use Rattle.walk.specs.Walk.{walk_from, end_of}
+use Rattle.walk.specs.Walk.{nothing_of, walk_from, end_of}
 use Rattle.cards.specs.Register.{cards_from, cards_of}
 use Rattle.cards.proofs.Laws.{cards_count, behind_header, header_refused}
 use Rattle.cards.proofs.Walked.{Passed, passed, passed_leaders, stopped}
@@ -29,21 +28,19 @@ use Rattle.prefix.proofs.Kept.{keeps, all_cards, refused_first}
 
 -- ---- the two parts of the walk
 
-module _ (first count : ℕ) (bytes : List ℕ) (h : first ≤ count) (x : Result (Running × ℕ) (SentBack ℕ)) (e : x ≡ walk_from writes.Nothing first before_cards 0 bytes) where
+module _ (first count : ℕ) (bytes : List ℕ) (h : first ≤ count) (x : Result (Running × ℕ) (SentBack ℕ)) (e : x ≡ walk_from nothing_of first before_cards 0 bytes) where
   parts : first + (count - first) ≡ count
   parts = omega arith
 
   -- it stopped in the first part
-  pub first_stopped : (r : Refusal) (p : ℕ) (y : Result Leaders (SentBack ℕ)) → x ≡ Err (refused_at r p) → y ≡ end_of x → y ≡ result_after first (cards_from count 0 0 bytes)
-  first_stopped r p y q g =
-      g
-      ∙ (ap end_of q
-      ∙ ap (result_after first)
-      (sym (ap (λ n. cards_from n 0 0 bytes) (sym parts) ∙ cut_sent_back first (count - first) 0 0 bytes r p (stopped writes.Nothing first before_cards bytes r p (sym e ∙ q)))))
+  pub first_stopped : (sent : SentBack ℕ) → x ≡ Err sent → Err sent ≡ result_after first (cards_from count 0 0 bytes)
+  first_stopped sent q =
+      ap (result_after first)
+      (sym (ap (λ n. cards_from n 0 0 bytes) (sym parts) ∙ cut_sent_back first (count - first) 0 0 bytes sent.refusal sent.place (stopped nothing_of first before_cards bytes sent (sym e ∙ q))))
 
   module _ (t : Running) (size : ℕ) (q : x ≡ Ok (t, size)) where
-    first_part : Passed writes.Nothing first before_cards bytes t size
-    first_part = passed writes.Nothing first before_cards bytes t size (sym e ∙ q)
+    first_part : Passed nothing_of first before_cards bytes t size
+    first_part = passed nothing_of first before_cards bytes t size (sym e ∙ q)
 
     list : List Answer
     list = first_part.list
@@ -70,22 +67,20 @@ module _ (first count : ℕ) (bytes : List ℕ) (h : first ≤ count) (x : Resul
         ∙ (ap (λ (s : Running). in_front first_part.list (cards_from (count - first) s.place s.last (drop (24 * first) bytes))) first_part.running
         ∙ ap (λ n. in_front first_part.list (cards_from (count - n) t.place t.last (drop (24 * n) bytes))) (sym place_is)))
 
-    module _ (y : Result (Running × ℕ) (SentBack ℕ)) (f : y ≡ walk_from writes.Nothing (count - t.place) t 0 (drop (24 * t.place) bytes)) where
+    module _ (y : Result (Running × ℕ) (SentBack ℕ)) (f : y ≡ walk_from nothing_of (count - t.place) t 0 (drop (24 * t.place) bytes)) where
       -- it stopped behind the first part
-      pub rest_stopped : (r : Refusal) (p : ℕ) (z : Result Leaders (SentBack ℕ)) → y ≡ Err (refused_at r p) → z ≡ end_of y → z ≡ result_after first (cards_from count 0 0 bytes)
-      rest_stopped r p z u g =
-          g
-          ∙ (ap end_of u
-          ∙ ap (result_after first)
-          (sym (cut ∙ (ap (in_front list) (stopped writes.Nothing (count - t.place) t (drop (24 * t.place) bytes) r p (sym f ∙ u)) ∙ front_sent_back list r p))))
+      pub rest_stopped : (sent : SentBack ℕ) → y ≡ Err sent → Err sent ≡ result_after first (cards_from count 0 0 bytes)
+      rest_stopped sent u =
+          ap (result_after first)
+          (sym (cut ∙ (ap (in_front list) (stopped nothing_of (count - t.place) t (drop (24 * t.place) bytes) sent (sym f ∙ u)) ∙ front_sent_back list sent.refusal sent.place)))
 
       -- it passed every card
       pub all_passed : (u : Running) (n : ℕ) → y ≡ Ok (u, n) → Ok t.leaders ≡ result_after first (cards_from count 0 0 bytes)
       unfolding list
       all_passed u n g =
-          let rest = passed writes.Nothing (count - t.place) t (drop (24 * t.place) bytes) u n (sym f ∙ g) in
+          let rest = passed nothing_of (count - t.place) t (drop (24 * t.place) bytes) u n (sym f ∙ g) in
           ap Ok
-          (passed_leaders writes.Nothing first bytes t size first_part
+          (passed_leaders nothing_of first bytes t size first_part
           ∙ ap leaders_of (sym (take_at first_part.list rest.list first list_length)))
           ∙ ap (result_after first) (sym (cut ∙ (ap (in_front list) rest.cards ∙ front_answers list rest.list)))
 
@@ -93,8 +88,8 @@ module _ (first count : ℕ) (bytes : List ℕ) (h : first ≤ count) (x : Resul
 
 module _ (bytes : List ℕ) (k : ℕ) (h : Result ℕ Refusal) (e : h ≡ header_of bytes enough) where
   -- a header that is refused is the register's own refusal
-  pub header_told : (r s : Refusal) → h ≡ Err r → s ≡ header_refusal h → Err (refused_at s 0) ≡ prefix_of bytes k
-  header_told r s q g = sym (refused_first bytes k s 0 (sym (header_refused bytes enough h e r s q g)))
+  pub header_told : (r : Refusal) → h ≡ Err r → Err (refused_at r 0) ≡ prefix_of bytes k
+  header_told r q = sym (refused_first bytes k r 0 (sym (header_refused bytes enough h e r q)))
 
   module _ (n : ℕ) (x : Result Leaders (SentBack ℕ)) (q : h ≡ Ok n) where
     good_is : result_after k (cards_from n 0 0 (take (length bytes - 7) (drop 7 bytes))) ≡ prefix_of bytes k

@@ -8,7 +8,7 @@ ghost use Rattle.prefix.specs.Claim.{Keeps};
 
 use farthest::Leaders;
 use refusals::SentBack;
-use walk::Writes;
+use walk::Nothing;
 
 // The running values of the one walk, where it has passed the first cards. It then goes on through the others, since a register is
 // accepted as a whole or not at all.
@@ -17,8 +17,8 @@ fn leaders_at(cards: &[u8], first: usize, count: usize) -> Result<Leaders, SentB
     ensures { result ≡ result_after first (cards_from count 0 0 cards.now) }
 {
     let mut nowhere = [0u8; 1];
-    let (running, _) = walk::through(cards, first, Writes::Nothing, &mut nowhere)?;
-    walk::along(cards, running, count, Writes::Nothing, &mut nowhere)?;
+    let (running, _) = walk::through::<Nothing>(cards, first, &mut nowhere)?;
+    walk::along::<Nothing>(cards, running, count, &mut nowhere)?;
     Ok(running.leaders)
 }
 

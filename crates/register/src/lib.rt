@@ -6,7 +6,7 @@ ghost use Rattle.cards.specs.Register.{cards_from, result_of, filled_with, outco
 
 use farthest::Leaders;
 use refusals::SentBack;
-use walk::Writes;
+use walk::Nothing;
 
 // The answers of a register's cards, by way of a buffer of this length.
 fn answer_by<const ROOM: usize>(
@@ -53,7 +53,7 @@ fn ask(cards: &[u8], count: usize) -> Result<Leaders, SentBack<u32>>
     ensures { result ≡ result_of (cards_from count 0 0 cards.now) }
 {
     let mut nowhere = [0u8; 1];
-    let walked = walk::through(cards, count, Writes::Nothing, &mut nowhere);
+    let walked = walk::through::<Nothing>(cards, count, &mut nowhere);
     walk::outcome_of(walked)
 }
 

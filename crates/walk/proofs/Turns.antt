@@ -3,7 +3,6 @@
 -- Assumes nothing.
 use Rattle.std.specs.Prelude.{Result, Ok, Err}
 use Rattle.refusals.specs.declared.SentBack.{SentBack}
-use Rattle.refusals.specs.Numbers.{refused_at}
 use Prim.Native.Nat.{ℕ, suc, ◌+◌, ◌-◌, ◌*◌, ◌≤◌, ◌<◌, zero-le}
 use native.Mathlib.Omega.{arith}
 use native.Mathlib.Nat.{sub-zero, mul-suc, mul-le-mul_left}
@@ -25,45 +24,20 @@ use Rattle.walk.specs.declared.Writes.{Writes}
 use Rattle.walk.specs.declared.Writes.TheVariants as writes
 use Rattle.walk.specs.Walk.{text_of, most_of, go_on, walk_from, write_on, text_from, end_of}
 
--- ---- what is written of a card
-
-module _ (w : Writes) (at : ℕ) where
-  pub room_answer : (n : ℕ) → w ≡ writes.Answers → at + most_of w ≤ n → at + 16 ≤ n
-  room_answer n e h = subst (λ v. at + most_of v ≤ n) e h
-
-  pub room_line : (n : ℕ) → w ≡ writes.Lines → at + most_of w ≤ n → at + 128 ≤ n
-  room_line n e h = subst (λ v. at + most_of v ≤ n) e h
-
-  pub most_answer : w ≡ writes.Answers → at + 16 ≤ at + most_of w
-  most_answer e = subst (λ v. at + 16 ≤ at + most_of v) (sym e) (omega arith)
-
-  pub most_line : (n : ℕ) → w ≡ writes.Lines → n ≤ at + 128 → n ≤ at + most_of w
-  most_line n e h = subst (λ v. n ≤ at + most_of v) (sym e) h
-
-  module _ (out : List ℕ) (a : Answer) where
-    pub nothing_put : w ≡ writes.Nothing → Wrote out out at at (text_of w a)
-    nothing_put e = rw e (record { place = omega arith; bytes = refl })
-
-    pub answer_put : (after : List ℕ) → w ≡ writes.Answers → after ≡ sets out at (answer_bytes a) → Wrote out after at (at + 16) (text_of w a)
-    answer_put after e g = rw e (record { place = omega (arith, length_answer a); bytes = g })
-
-    pub line_put : {after : List ℕ} {n : ℕ} → w ≡ writes.Lines → Wrote out after at n (card_line a) → Wrote out after at n (text_of w a)
-    line_put {after} {n} e p = subst (λ v. Wrote out after at n (text_of v a)) (sym e) p
-
 -- ---- the walk
 
-module _ (cards : List ℕ) (to : ℕ) (w : Writes) where
+module _ (cards : List ℕ) (to : ℕ) (told : Answer → List ℕ) (most : ℕ) where
   -- what is left of the walk from running values and a position on
   abbrev pub Left : Running → ℕ → Result (Running × ℕ) (SentBack ℕ)
-  Left s at = walk_from w (to - s.place) s at (drop (24 * s.place) cards)
+  Left s at = walk_from told (to - s.place) s at (drop (24 * s.place) cards)
 
   -- and what is left to write
   abbrev pub Unwritten : Running → List ℕ
-  Unwritten s = text_from w (to - s.place) s (drop (24 * s.place) cards)
+  Unwritten s = text_from told (to - s.place) s (drop (24 * s.place) cards)
 
   -- 16 or 128 bytes a card: there is room for the next
-  pub room : (at place : ℕ) (out out₀ : List ℕ) → place < to → at ≤ most_of w * place → length out ≡ length out₀ → most_of w * to ≤ length out₀ → at + most_of w ≤ length out
-  room at place out out₀ h k l m = omega (arith, mul-suc (most_of w) place, mul-le-mul_left (most_of w) h)
+  pub room : (at place : ℕ) (out out₀ : List ℕ) → place < to → at ≤ most * place → length out ≡ length out₀ → most * to ≤ length out₀ → at + most ≤ length out
+  room at place out out₀ h k l m = omega (arith, mul-suc (most) place, mul-le-mul_left (most) h)
 
   module _ (s : Running) (h : s.place < to) (x : Result (Running × Answer) (SentBack ℕ)) (e : x ≡ step_of s (take 24 (drop (24 * s.place) cards))) where
     left : to - s.place ≡ suc (to - suc s.place)
@@ -76,22 +50,22 @@ module _ (cards : List ℕ) (to : ℕ) (w : Writes) where
 
     -- what the walk comes to behind the card, and what it writes of the card and behind it
     abbrev Onward : ℕ → Running → Answer → Result (Running × ℕ) (SentBack ℕ)
-    Onward at t a = walk_from w (to - suc s.place) t (at + length (text_of w a)) (drop (24 * suc s.place) cards)
+    Onward at t a = walk_from told (to - suc s.place) t (at + length (told a)) (drop (24 * suc s.place) cards)
 
     abbrev Written : Running → Answer → List ℕ
-    Written t a = text_of w a ++ text_from w (to - suc s.place) t (drop (24 * suc s.place) cards)
+    Written t a = told a ++ text_from told (to - suc s.place) t (drop (24 * suc s.place) cards)
 
     left_is : (at : ℕ) (y : Result (Running × Answer) (SentBack ℕ)) → x ≡ y → Left s at ≡ go_on y (Onward at)
     unfolding walk_from
     left_is at y q =
-        ap (λ n. walk_from w n s at (drop (24 * s.place) cards)) left
-        ∙ ap₂ (λ z rest. go_on z (λ t a. walk_from w (to - suc s.place) t (at + length (text_of w a)) rest)) (sym e ∙ q) next
+        ap (λ n. walk_from told n s at (drop (24 * s.place) cards)) left
+        ∙ ap₂ (λ z rest. go_on z (λ t a. walk_from told (to - suc s.place) t (at + length (told a)) rest)) (sym e ∙ q) next
 
     unwritten_is : (y : Result (Running × Answer) (SentBack ℕ)) → x ≡ y → Unwritten s ≡ write_on y Written
     unfolding text_from
     unwritten_is y q =
-        ap (λ n. text_from w n s (drop (24 * s.place) cards)) left
-        ∙ ap₂ (λ z rest. write_on z (λ t a. text_of w a ++ text_from w (to - suc s.place) t rest)) (sym e ∙ q) next
+        ap (λ n. text_from told n s (drop (24 * s.place) cards)) left
+        ∙ ap₂ (λ z rest. write_on z (λ t a. told a ++ text_from told (to - suc s.place) t rest)) (sym e ∙ q) next
 
     -- a card that is answered: the walk goes on from the next place
     module _ (t : Running) (a : Answer) (q : x ≡ Ok (t, a)) where
@@ -104,43 +78,43 @@ module _ (cards : List ℕ) (to : ℕ) (w : Writes) where
       pub turn_less : to - t.place < to - s.place
       turn_less = omega (arith, place_is)
 
-      pub turn_at : (at n : ℕ) → at ≤ most_of w * s.place → n ≤ at + most_of w → n ≤ most_of w * t.place
-      turn_at at n k m = rw place_is (omega (arith, mul-suc (most_of w) s.place))
+      pub turn_at : (at n : ℕ) → at ≤ most * s.place → n ≤ at + most → n ≤ most * t.place
+      turn_at at n k m = rw place_is (omega (arith, mul-suc (most) s.place))
 
-      pub turn_left : {out after : List ℕ} {at n : ℕ} (whole : Result (Running × ℕ) (SentBack ℕ)) → Wrote out after at n (text_of w a) → Left s at ≡ whole → Left t n ≡ whole
+      pub turn_left : {out after : List ℕ} {at n : ℕ} (whole : Result (Running × ℕ) (SentBack ℕ)) → Wrote out after at n (told a) → Left s at ≡ whole → Left t n ≡ whole
       turn_left {at = at} whole p k =
-          ap₂ (λ m i. walk_from w (to - i) t m (drop (24 * i) cards)) p.place place_is
+          ap₂ (λ m i. walk_from told (to - i) t m (drop (24 * i) cards)) p.place place_is
           ∙ (sym (left_is at (Ok (t, a)) q) ∙ k)
 
-      pub turn_written : {out after : List ℕ} {at n : ℕ} (whole : List ℕ) → Wrote out after at n (text_of w a) → sets out at (Unwritten s) ≡ whole → sets after n (Unwritten t) ≡ whole
+      pub turn_written : {out after : List ℕ} {at n : ℕ} (whole : List ℕ) → Wrote out after at n (told a) → sets out at (Unwritten s) ≡ whole → sets after n (Unwritten t) ≡ whole
       turn_written {out} {after} {at} {n} whole p k =
-          let rest = text_from w (to - suc s.place) t (drop (24 * suc s.place) cards) in
-          ap (λ i. sets after n (text_from w (to - i) t (drop (24 * i) cards))) place_is
+          let rest = text_from told (to - suc s.place) t (drop (24 * suc s.place) cards) in
+          ap (λ i. sets after n (text_from told (to - i) t (drop (24 * i) cards))) place_is
           ∙ (ap₂ (λ b m. sets b m rest) p.bytes p.place
-          ∙ (sets_append (text_of w a) rest out at
+          ∙ (sets_append (told a) rest out at
           ∙ (ap (sets out at) (sym (unwritten_is (Ok (t, a)) q)) ∙ k)))
 
     -- a card that is refused: the walk ends there, and nothing more is written
-    module _ (r : Refusal) (p : ℕ) (q : x ≡ Err (refused_at r p)) where
-      pub refused_left : (at : ℕ) (whole : Result (Running × ℕ) (SentBack ℕ)) → Left s at ≡ whole → Err (refused_at r p) ≡ whole
-      refused_left at whole k = sym (left_is at (Err (refused_at r p)) q) ∙ k
+    module _ (sent : SentBack ℕ) (q : x ≡ Err sent) where
+      pub refused_left : (at : ℕ) (whole : Result (Running × ℕ) (SentBack ℕ)) → Left s at ≡ whole → Err sent ≡ whole
+      refused_left at whole k = sym (left_is at (Err sent) q) ∙ k
 
       pub refused_written : (out : List ℕ) (at : ℕ) (whole : List ℕ) → sets out at (Unwritten s) ≡ whole → out ≡ whole
-      refused_written out at whole k = ap (sets out at) (sym (unwritten_is (Err (refused_at r p)) q)) ∙ k
+      refused_written out at whole k = ap (sets out at) (sym (unwritten_is (Err sent) q)) ∙ k
 
   -- no card is left
   pub end_left : (s : Running) (at : ℕ) (whole : Result (Running × ℕ) (SentBack ℕ)) → to ≤ s.place → Left s at ≡ whole → Ok (s, at) ≡ whole
   unfolding walk_from
   end_left s at whole h k =
-      ap (λ n. walk_from w n s at (drop (24 * s.place) cards)) (let z : 0 ≡ to - s.place = omega arith in z) ∙ k
+      ap (λ n. walk_from told n s at (drop (24 * s.place) cards)) (let z : 0 ≡ to - s.place = omega arith in z) ∙ k
 
   pub end_written : (s : Running) (out : List ℕ) (at : ℕ) (whole : List ℕ) → to ≤ s.place → sets out at (Unwritten s) ≡ whole → out ≡ whole
   unfolding text_from
   end_written s out at whole h k =
-      ap (λ n. sets out at (text_from w n s (drop (24 * s.place) cards))) (let z : 0 ≡ to - s.place = omega arith in z) ∙ k
+      ap (λ n. sets out at (text_from told n s (drop (24 * s.place) cards))) (let z : 0 ≡ to - s.place = omega arith in z) ∙ k
 
-  pub end_within : (s : Running) (at : ℕ) → s.place ≤ to → at ≤ most_of w * s.place → at ≤ most_of w * to
-  end_within s at h k = omega (arith, mul-le-mul_left (most_of w) h)
+  pub end_within : (s : Running) (at : ℕ) → s.place ≤ to → at ≤ most * s.place → at ≤ most * to
+  end_within s at h k = omega (arith, mul-le-mul_left (most) h)
 
 -- ---- the walk from the first card on
 
@@ -148,18 +122,18 @@ module _ (s : Running) (e : s ≡ before_cards) where
   pub start_place : (n : ℕ) → s.place ≤ n
   start_place n = rw e zero-le
 
-  pub start_walk : (x : Result (Running × ℕ) (SentBack ℕ)) (w : Writes) (n : ℕ) (cards : List ℕ) → x ≡ walk_from w (n - s.place) s 0 (drop (24 * s.place) cards) → x ≡ walk_from w n before_cards 0 cards
-  start_walk x w n cards g =
-      g ∙ (ap (λ (t : Running). walk_from w (n - t.place) t 0 (drop (24 * t.place) cards)) e ∙ ap (λ m. walk_from w m before_cards 0 cards) (sub-zero n))
+  pub start_walk : (x : Result (Running × ℕ) (SentBack ℕ)) (told : Answer → List ℕ) (n : ℕ) (cards : List ℕ) → x ≡ walk_from told (n - s.place) s 0 (drop (24 * s.place) cards) → x ≡ walk_from told n before_cards 0 cards
+  start_walk x told n cards g =
+      g ∙ (ap (λ (t : Running). walk_from told (n - t.place) t 0 (drop (24 * t.place) cards)) e ∙ ap (λ m. walk_from told m before_cards 0 cards) (sub-zero n))
 
-  pub start_text : (out after : List ℕ) (w : Writes) (n : ℕ) (cards : List ℕ) → after ≡ sets out 0 (text_from w (n - s.place) s (drop (24 * s.place) cards)) → after ≡ sets out 0 (text_from w n before_cards cards)
-  start_text out after w n cards g =
-      g ∙ (ap (λ (t : Running). sets out 0 (text_from w (n - t.place) t (drop (24 * t.place) cards))) e ∙ ap (λ m. sets out 0 (text_from w m before_cards cards)) (sub-zero n))
+  pub start_text : (out after : List ℕ) (told : Answer → List ℕ) (n : ℕ) (cards : List ℕ) → after ≡ sets out 0 (text_from told (n - s.place) s (drop (24 * s.place) cards)) → after ≡ sets out 0 (text_from told n before_cards cards)
+  start_text out after told n cards g =
+      g ∙ (ap (λ (t : Running). sets out 0 (text_from told (n - t.place) t (drop (24 * t.place) cards))) e ∙ ap (λ m. sets out 0 (text_from told m before_cards cards)) (sub-zero n))
 
 -- ---- the end of a walk as a call's answer
 
 pub ended_on : (x : Result (Running × ℕ) (SentBack ℕ)) (s : Running) (n : ℕ) → x ≡ Ok (s, n) → Ok s.leaders ≡ end_of x
 ended_on x s n e = ap end_of (sym e)
 
-pub ended_refused : (x : Result (Running × ℕ) (SentBack ℕ)) (r : Refusal) (p : ℕ) → x ≡ Err (refused_at r p) → Err (refused_at r p) ≡ end_of x
-ended_refused x r p e = ap end_of (sym e)
+pub ended_refused : (x : Result (Running × ℕ) (SentBack ℕ)) (sent : SentBack ℕ) → x ≡ Err sent → Err sent ≡ end_of x
+ended_refused x sent e = ap end_of (sym e)

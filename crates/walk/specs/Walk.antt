@@ -12,45 +12,35 @@ use Rattle.lines.specs.Lines.{card_line}
 use Rattle.header.specs.Header.{card_size, answer_size}
 use Rattle.running.specs.declared.Running.{Running}
 use Rattle.running.specs.Running.{step_of}
-use Rattle.walk.specs.declared.Writes.{Writes}
-use Rattle.walk.specs.declared.Writes.TheVariants as writes
 
--- what is written of a card
-abbrev pub text_of : Writes → Answer → List ℕ
-text_of writes.Nothing a = []
-text_of writes.Answers a = answer_bytes a
-text_of writes.Lines a = card_line a
+-- the walk that writes nothing of a card
+abbrev pub nothing_of : Answer → List ℕ
+nothing_of a = []
 
--- and at most how many bytes
-abbrev pub most_of : Writes → ℕ
-most_of writes.Nothing = 0
-most_of writes.Answers = answer_size
-most_of writes.Lines = 128
-
--- and of several cards, one after the other
-unfoldable pub texts_of : Writes → List Answer → List ℕ
-texts_of w [] = []
-texts_of w (a ∷ rest) = text_of w a ++ texts_of w rest
+-- what is written of several cards, one after the other, where this is written of each
+unfoldable pub texts_of : (Answer → List ℕ) → List Answer → List ℕ
+texts_of told [] = []
+texts_of told (a ∷ rest) = told a ++ texts_of told rest
 
 abbrev pub go_on : Result (Running × Answer) (SentBack ℕ) → (Running → Answer → Result (Running × ℕ) (SentBack ℕ)) → Result (Running × ℕ) (SentBack ℕ)
 go_on (Ok (s, a)) further = further s a
 go_on (Err sent) further = Err sent
 
 -- the cards that are left, from the running values and the bytes written so far
-unfoldable pub walk_from : Writes → ℕ → Running → ℕ → List ℕ → Result (Running × ℕ) (SentBack ℕ)
-walk_from w zero s at bytes = Ok (s, at)
-walk_from w (suc left) s at bytes =
-    go_on (step_of s (take card_size bytes)) (λ t a. walk_from w left t (at + length (text_of w a)) (drop card_size bytes))
+unfoldable pub walk_from : (Answer → List ℕ) → ℕ → Running → ℕ → List ℕ → Result (Running × ℕ) (SentBack ℕ)
+walk_from told zero s at bytes = Ok (s, at)
+walk_from told (suc left) s at bytes =
+    go_on (step_of s (take card_size bytes)) (λ t a. walk_from told left t (at + length (told a)) (drop card_size bytes))
 
 abbrev pub write_on : Result (Running × Answer) (SentBack ℕ) → (Running → Answer → List ℕ) → List ℕ
 write_on (Ok (s, a)) further = further s a
 write_on (Err sent) further = []
 
 -- what is written of the cards that are left, up to the first that is refused
-unfoldable pub text_from : Writes → ℕ → Running → List ℕ → List ℕ
-text_from w zero s bytes = []
-text_from w (suc left) s bytes =
-    write_on (step_of s (take card_size bytes)) (λ t a. text_of w a ++ text_from w left t (drop card_size bytes))
+unfoldable pub text_from : (Answer → List ℕ) → ℕ → Running → List ℕ → List ℕ
+text_from told zero s bytes = []
+text_from told (suc left) s bytes =
+    write_on (step_of s (take card_size bytes)) (λ t a. told a ++ text_from told left t (drop card_size bytes))
 
 -- the end of a walk through all cards as a call's answer
 abbrev pub end_of : Result (Running × ℕ) (SentBack ℕ) → Result Leaders (SentBack ℕ)

@@ -4,16 +4,16 @@ use Rattle.walk.proofs.Turns.{room, turn_place, turn_less, turn_at, turn_left, t
 use Rattle.walk.proofs.along.Goals as goal
 
 pub put-at-requires : goal.put-at-requires
-put-at-requires c = search (room, rules)
+put-at-requires g c = search (room, rules)
 
 pub loop-running-smaller : goal.loop-running-smaller
-loop-running-smaller c = search (turn_less, rules)
+loop-running-smaller g c = search (turn_less, rules)
 
 pub loop-running-preserved : goal.loop-running-preserved
-loop-running-preserved c = search (turn_place, turn_at, turn_left, turn_written, rules)
+loop-running-preserved g c = search (turn_place, turn_at, turn_left, turn_written, rules)
 
-pub returns-in-Refused : goal.returns-in-Refused
-returns-in-Refused c = search (refused_left, refused_written, rules)
+pub returns-in-step_at-Err : goal.returns-in-step_at-Err
+returns-in-step_at-Err g c = search (refused_left, refused_written, rules)
 
 pub returns : goal.returns
-returns c = search (end_left, end_written, end_within, rules)
+returns g c = search (end_left, end_written, end_within, rules)

@@ -5,14 +5,16 @@ use Prim.Native.Nat.{◌≤◌, ◌-◌, ◌*◌}
 use mathlib.Core.Path.{◌≡◌}
 use lib.ListN.{length}
 use lib.Seq.{sets}
-use Rattle.walk.specs.Walk.{most_of}
 use Rattle.walk.proofs.Turns.{Left, Unwritten}
 use Rattle.walk.proofs.along.Given as goal
 
 abbrev pub invariant-loop-running : goal.invariant-loop-running
-invariant-loop-running l = (l.running.place ≤ l.to) × (l.at ≤ most_of l.writes * l.running.place) × (length l.out ≡ length l.initial.out)
-    × (Left l.cards l.to l.writes l.running l.at ≡ Left l.cards l.to l.writes l.initial.running 0)
-    × (sets l.out l.at (Unwritten l.cards l.to l.writes l.running) ≡ sets l.initial.out 0 (Unwritten l.cards l.to l.writes l.initial.running))
+invariant-loop-running g l =
+    let told = g.W.Writes.text in
+    let most = g.W.Writes.most in
+    (l.running.place ≤ l.to) × (l.at ≤ most * l.running.place) × (length l.out ≡ length l.initial.out)
+    × (Left l.cards l.to told most l.running l.at ≡ Left l.cards l.to told most l.initial.running 0)
+    × (sets l.out l.at (Unwritten l.cards l.to told most l.running) ≡ sets l.initial.out 0 (Unwritten l.cards l.to told most l.initial.running))
 
 abbrev pub decreases-loop-running : goal.decreases-loop-running
-decreases-loop-running l = l.to - l.running.place
+decreases-loop-running g l = l.to - l.running.place
