@@ -3,8 +3,6 @@
 use Rattle.std.specs.Prelude.{Option, Some, None, Result, Ok, Err}
 use Rattle.farthest.specs.declared.Leader.{Leader}
 use Rattle.refusals.specs.declared.SentBack.{SentBack}
-use Rattle.farthest.specs.Farthest.{leader}
-use Rattle.refusals.specs.Numbers.{refused_at}
 use Prim.Native.Nat.{ℕ, ◌+◌, ◌*◌}
 use mathlib.Core.Path.{◌≡◌, ◌∙◌, ap, sym}
 use Rattle.units.specs.declared.Miles.{Miles}
@@ -18,9 +16,9 @@ pub none_word : (f : Option Leader) → f ≡ None → 0 ≡ word_of f
 unfolding word_of
 none_word f q = ap word_of (sym q)
 
-pub card_word : (f : Option Leader) (number miles : ℕ) (d : Miles) → f ≡ Some (leader number d) → miles ≡ d.0 → number * 65_536 + miles ≡ word_of f
+pub card_word : (f : Option Leader) (lead : Leader) (miles : ℕ) → f ≡ Some lead → miles ≡ lead.distance.0 → lead.number * 65_536 + miles ≡ word_of f
 unfolding word_of
-card_word f number miles d q g = ap (λ n. number * 65_536 + n) g ∙ ap word_of (sym q)
+card_word f lead miles q g = ap (λ n. lead.number * 65_536 + n) g ∙ ap word_of (sym q)
 
 -- ---- an outcome: the two cases
 
@@ -29,17 +27,17 @@ module _ (x : Result Leaders (SentBack ℕ)) where
   unfolding code_of
   accepted_code l q = ap code_of (sym q)
 
-  pub refused_code : (r : Refusal) (place n : ℕ) → x ≡ Err (refused_at r place) → n ≡ refusal_code r place → n ≡ code_of x
+  pub refused_code : (sent : SentBack ℕ) (n : ℕ) → x ≡ Err sent → n ≡ refusal_code sent.refusal sent.place → n ≡ code_of x
   unfolding code_of
-  refused_code r place n q g = g ∙ ap code_of (sym q)
+  refused_code sent n q g = g ∙ ap code_of (sym q)
 
   pub accepted_word : (c : Class) (l : Leaders) (n before : ℕ) → x ≡ Ok l → n ≡ word_of (leader_of c l) → n ≡ word_after c x before
   unfolding word_after
   accepted_word c l n before q g = g ∙ ap (λ o. word_after c o before) (sym q)
 
-  pub refused_word : (c : Class) (r : Refusal) (place before : ℕ) → x ≡ Err (refused_at r place) → before ≡ word_after c x before
+  pub refused_word : (c : Class) (sent : SentBack ℕ) (before : ℕ) → x ≡ Err sent → before ≡ word_after c x before
   unfolding word_after
-  refused_word c r place before q = ap (λ o. word_after c o before) (sym q)
+  refused_word c sent before q = ap (λ o. word_after c o before) (sym q)
 
 -- ---- a conversion: the two cases
 
@@ -48,14 +46,14 @@ module _ (x : Result ℕ (SentBack ℕ)) where
   unfolding conversion_code
   bytes_code n q = ap conversion_code (sym q)
 
-  pub refusal_code_lem : (r : Refusal) (place n : ℕ) → x ≡ Err (refused_at r place) → n ≡ number_of r → n ≡ conversion_code x
+  pub refusal_code_lem : (sent : SentBack ℕ) (n : ℕ) → x ≡ Err sent → n ≡ number_of sent.refusal → n ≡ conversion_code x
   unfolding conversion_code
-  refusal_code_lem r place n q g = g ∙ ap conversion_code (sym q)
+  refusal_code_lem sent n q g = g ∙ ap conversion_code (sym q)
 
   pub bytes_at : (n : ℕ) → x ≡ Ok n → n ≡ conversion_at x
   unfolding conversion_at
   bytes_at n q = ap conversion_at (sym q)
 
-  pub refusal_at : (r : Refusal) (place : ℕ) → x ≡ Err (refused_at r place) → place ≡ conversion_at x
+  pub refusal_at : (sent : SentBack ℕ) → x ≡ Err sent → sent.place ≡ conversion_at x
   unfolding conversion_at
-  refusal_at r place q = ap conversion_at (sym q)
+  refusal_at sent q = ap conversion_at (sym q)

@@ -94,8 +94,8 @@ module _ (bytes : List ℕ) (x : Result Leaders (SentBack ℕ)) (e : x ≡ outco
       accepted_written out after g =
           g ∙ ap (λ text. written_as accepted text out) text_is ∙ ap (λ y. written_as y (strict_text bytes) out) (sym q ∙ e)
 
-  module _ (r : Refusal) (place : ℕ) (q : x ≡ Err (refused_at r place)) where
-    pub refused_answer : (room : ℕ) → Err (refused_at r place) ≡ writing_of bytes room
+  module _ (sent : SentBack ℕ) (q : x ≡ Err sent) where
+    pub refused_answer : (room : ℕ) → Err sent ≡ writing_of bytes room
     unfolding writing_of
     refused_answer room = ap (λ y. answer_as y (strict_text bytes) room) (sym q ∙ e)
 

@@ -13,8 +13,8 @@ slice_bounds-put_text-end-in-On c = search (part_length, rules)
 pub put_text-requires : goal.put_text-requires
 put_text-requires c = search (part_fits, rules)
 
-pub returns-in-On : goal.returns-in-On
-returns-in-On c = search (on_result, copied, rules)
+pub returns-in-Ok : goal.returns-in-Ok
+returns-in-Ok c = search (on_result, copied, rules)
 
-pub returns-in-Refused : goal.returns-in-Refused
-returns-in-Refused c = search (refused_result, refused_kept, rules)
+pub returns-in-Err : goal.returns-in-Err
+returns-in-Err c = search (refused_result, refused_kept, rules)

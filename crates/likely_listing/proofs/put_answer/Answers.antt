@@ -6,8 +6,8 @@ use Rattle.likely_listing.proofs.put_answer.Goals as goal
 pub put_scenario-requires : goal.put_scenario-requires
 put_scenario-requires c = search (scenario_carries, rules)
 
-pub returns-in-Is : goal.returns-in-Is
-returns-in-Is c = search (scenario_line_lem, rules)
+pub returns-in-Ok : goal.returns-in-Ok
+returns-in-Ok c = search (scenario_line_lem, rules)
 
-pub returns-in-Refused : goal.returns-in-Refused
-returns-in-Refused c = search (refused_line_lem, rules)
+pub returns-in-Err : goal.returns-in-Err
+returns-in-Err c = search (refused_line_lem, rules)

@@ -13,5 +13,5 @@ returns-in-Toxic c = search (meant_toxic, rules)
 pub returns-in-Flammable : goal.returns-in-Flammable
 returns-in-Flammable c = search (meant_flammable, rules)
 
-pub returns-in-Refused : goal.returns-in-Refused
-returns-in-Refused c = search (meant_refused, rules)
+pub returns-in-Err : goal.returns-in-Err
+returns-in-Err c = search (meant_refused, rules)

@@ -9,5 +9,5 @@ returns-in-Toxic c = search (shaped_toxic, rules)
 pub returns-in-Flammable : goal.returns-in-Flammable
 returns-in-Flammable c = search (shaped_flammable, rules)
 
-pub returns-in-Refused : goal.returns-in-Refused
-returns-in-Refused c = search (shaped_refused, rules)
+pub returns-in-Err : goal.returns-in-Err
+returns-in-Err c = search (shaped_refused, rules)

@@ -7,5 +7,5 @@ use Rattle.listing.proofs.put_listing.Goals as goal
 pub put_accepted-requires : goal.put_accepted-requires
 put_accepted-requires c = search (accepted_is, rules)
 
-pub returns-in-Refused : goal.returns-in-Refused
-returns-in-Refused c = search (sent_back_line, rules)
+pub returns-in-Err : goal.returns-in-Err
+returns-in-Err c = search (sent_back_line, rules)

@@ -4,8 +4,8 @@ use Rattle.running.proofs.Steps.{step_on, step_refused}
 use borrow.Author.Rules.{rules}
 use Rattle.running.proofs.step.Goals as goal
 
-pub returns-in-Is : goal.returns-in-Is
-returns-in-Is c = search (step_on, rules)
+pub returns-in-Ok : goal.returns-in-Ok
+returns-in-Ok c = search (step_on, rules)
 
-pub returns-in-Refused : goal.returns-in-Refused
-returns-in-Refused c = search (step_refused, rules)
+pub returns-in-Err : goal.returns-in-Err
+returns-in-Err c = search (step_refused, rules)

@@ -4,8 +4,8 @@ use Rattle.words.proofs.Ends.{bytes_at, refusal_at}
 use borrow.Author.Rules.{rules}
 use Rattle.words.proofs.conversion_at.Goals as goal
 
-pub returns-in-Bytes : goal.returns-in-Bytes
-returns-in-Bytes c = search (bytes_at, rules)
+pub returns-in-Ok : goal.returns-in-Ok
+returns-in-Ok c = search (bytes_at, rules)
 
-pub returns-in-Refused : goal.returns-in-Refused
-returns-in-Refused c = search (refusal_at, rules)
+pub returns-in-Err : goal.returns-in-Err
+returns-in-Err c = search (refusal_at, rules)

@@ -4,8 +4,8 @@ use Rattle.words.proofs.Ends.{bytes_code, refusal_code_lem}
 use borrow.Author.Rules.{rules}
 use Rattle.words.proofs.conversion_code.Goals as goal
 
-pub returns-in-Bytes : goal.returns-in-Bytes
-returns-in-Bytes c = search (bytes_code, rules)
+pub returns-in-Ok : goal.returns-in-Ok
+returns-in-Ok c = search (bytes_code, rules)
 
-pub returns-in-Refused : goal.returns-in-Refused
-returns-in-Refused c = search (refusal_code_lem, rules)
+pub returns-in-Err : goal.returns-in-Err
+returns-in-Err c = search (refusal_code_lem, rules)

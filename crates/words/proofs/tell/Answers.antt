@@ -4,8 +4,8 @@ use Rattle.words.proofs.Ends.{accepted_code, accepted_word, refused_code, refuse
 use borrow.Author.Rules.{rules}
 use Rattle.words.proofs.tell.Goals as goal
 
-pub returns-in-Accepted : goal.returns-in-Accepted
-returns-in-Accepted c = search (accepted_code, accepted_word, rules)
+pub returns-in-Ok : goal.returns-in-Ok
+returns-in-Ok c = search (accepted_code, accepted_word, rules)
 
-pub returns-in-Refused : goal.returns-in-Refused
-returns-in-Refused c = search (refused_code, refused_word, rules)
+pub returns-in-Err : goal.returns-in-Err
+returns-in-Err c = search (refused_code, refused_word, rules)

@@ -13,8 +13,8 @@ slice_bounds-write_cards-start c = search (room_for, rules)
 pub write_cards-requires : goal.write_cards-requires
 write_cards-requires c = search (room_for, rules)
 
-pub returns-in-Accepted : goal.returns-in-Accepted
-returns-in-Accepted c = search (accepted_answer, accepted_written, rules)
+pub returns-in-Ok : goal.returns-in-Ok
+returns-in-Ok c = search (accepted_answer, accepted_written, rules)
 
-pub returns-in-Refused : goal.returns-in-Refused
-returns-in-Refused c = search (refused_answer, refused_kept, rules)
+pub returns-in-Err : goal.returns-in-Err
+returns-in-Err c = search (refused_answer, refused_kept, rules)
