@@ -47,6 +47,7 @@ fn overtake(leader: Option<Leader>, answer: Answer) -> Option<Leader>
 }
 
 // The leads of both classes after one more card, which counts only in its own class.
+#[tactic(auto, unfolding(crate::specs::Farthest::leaders_after))]
 pub fn lead(leaders: Leaders, answer: Answer) -> Leaders
     ensures { result ≡ leaders_after leaders answer }
 {

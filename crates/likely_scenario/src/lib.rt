@@ -28,6 +28,7 @@ const LARGEST_RATE: u64 = 1_000_000_000;
 // The tables of likely scenarios stand in the order of those of worst cases, thirteen above them.
 const ABOVE_WORST_CASE: u8 = 13;
 
+#[tactic(auto, unfolding(crate::specs::LikelyScenario::bad_rate))]
 fn bad_rate(rate: u64) -> bool
     ensures { result ≡ bad_rate rate }
 {
@@ -47,6 +48,7 @@ fn alternative_plume(entry: Toxic) -> Plume
 }
 
 // The table of a card, by the supplied minutes.
+#[tactic(auto, unfolding(crate::specs::LikelyScenario::likely_table))]
 fn likely_table(card: ToxicCard, minutes: u32) -> u8
     ensures { result ≡ likely_table card minutes }
 {
@@ -112,6 +114,7 @@ fn of_card(card: &[u8], rate: u64, minutes: u32) -> Result<LikelyScenario, Refus
 }
 
 // The likely scenario of a card's 24 bytes at a supplied rate, in thousandths of a pound per minute, and a supplied duration.
+#[tactic(auto, unfolding(crate::specs::LikelyScenario::likely_of))]
 pub fn likely_of(card: &[u8; 24], rate: u64, minutes: u32) -> Result<LikelyScenario, Refusal>
     ensures { result ≡ likely_of card.now rate minutes }
 {

@@ -31,6 +31,7 @@ fn hundredths_of(distance: Likely) -> f64
 }
 
 // An answer by words: 0 and the three that are lent, or the refusal's word, and then the three are left alone.
+#[tactic(auto, unfolding(crate::specs::LikelyWords::likely_code, crate::specs::LikelyWords::table_after, crate::specs::LikelyWords::found_after, crate::specs::LikelyWords::hundredths_after))]
 pub fn tell_likely(
     answer: Result<LikelyScenario, Refusal>,
     table: &mut u64,

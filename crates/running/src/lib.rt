@@ -28,6 +28,7 @@ pub fn start() -> Running
 }
 
 // One card more: the running values after it, and what it answers; or why it is sent back, and its place.
+#[tactic(auto, unfolding(crate::specs::Running::step_of))]
 pub fn step(running: Running, card: &[u8]) -> Result<(Running, Answer), SentBack<u32>>
     requires { running.place < 2000 }
     ensures { result ≡ step_of running card.now }

@@ -9,6 +9,7 @@ use farthest::{Leader, Leaders};
 use refusals::{Refusal, SentBack};
 
 // A farthest card as a word: 0 for none, else its number above sixteen bits of hundredths of a mile.
+#[tactic(auto, unfolding(crate::specs::Words::word_of))]
 fn word_of(leader: Option<Leader>) -> u64
     ensures { result ≡ word_of leader }
 {
@@ -27,6 +28,7 @@ pub fn code_of(refusal: Refusal, place: u32) -> u64
 }
 
 // An outcome by words: on acceptance 0 and the two farthest cards, on a refusal its word, and the two are left alone.
+#[tactic(auto, unfolding(crate::specs::Words::code_of, crate::specs::Words::word_after))]
 pub fn tell(outcome: Result<Leaders, SentBack<u32>>, toxic: &mut u64, flammable: &mut u64) -> u64
     ensures value { result ≡ code_of outcome }
     ensures toxic_after { toxic.new ≡ word_after Toxic outcome toxic.old }
@@ -43,6 +45,7 @@ pub fn tell(outcome: Result<Leaders, SentBack<u32>>, toxic: &mut u64, flammable:
 }
 
 // What a conversion returns: 0, or the number of its refusal.
+#[tactic(auto, unfolding(crate::specs::Words::conversion_code))]
 pub fn conversion_code(converted: Result<usize, SentBack<usize>>) -> u64
     ensures { result ≡ conversion_code converted }
 {
@@ -53,6 +56,7 @@ pub fn conversion_code(converted: Result<usize, SentBack<usize>>) -> u64
 }
 
 // The word beside it: how many bytes were written, or the place of the refusal.
+#[tactic(auto, unfolding(crate::specs::Words::conversion_at))]
 pub fn conversion_at(converted: Result<usize, SentBack<usize>>) -> u64
     ensures { result ≡ conversion_at converted }
 {
