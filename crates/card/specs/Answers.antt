@@ -9,7 +9,6 @@ use Rattle.scenario.specs.declared.ToxicCard.{ToxicCard}
 use Rattle.scenario.specs.declared.Scenario.{Scenario}
 use Rattle.scenario.specs.Plan.{plan_of}
 use Rattle.fields.specs.Layout.{fields_of}
-use Rattle.meaning.specs.declared.FlammableCard.{FlammableCard}
 use Rattle.meaning.specs.declared.Meaning.{Meaning}
 use Rattle.meaning.specs.declared.Meaning.TheVariants as meaning
 use Rattle.refusals.specs.declared.Refusal.TheVariants as refusal

@@ -79,6 +79,7 @@ fn flammable_answer(number: u32, card: FlammableCard) -> Answer
 }
 
 // The answer of a card's bytes, after the last card's number. Bytes past the end of a short card read as zero.
+#[tactic(auto, unfolding(crate::specs::Answers::answer_of))]
 pub fn answer_of(card: &[u8], last: u32) -> Result<Answer, Refusal>
     ensures { result ≡ answer_of card.now last }
 {
