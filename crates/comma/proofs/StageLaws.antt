@@ -1,14 +1,14 @@
 -- A field at a place is the first of the fields from there on.
 -- Assumes nothing.
-use Rattle.std.specs.Prelude.{Option, Some, None}
+use Rattle.std.specs.Prelude.{Option, Some, None, option_and_then}
 use Prim.Native.Nat.{ℕ, suc, ◌+◌, ◌≤◌, ◌<◌}
 use native.Mathlib.Omega.{arith}
 use Rattle.std.specs.Prelude.{◌≡◌, refl, Bool, true, false, eqb}
-use Rattle.std.proofs.Common.{sym, ◌∙◌, drop-drop, lt-ltb, le-ltb, ⊎_elim}
+use Rattle.std.proofs.Common.{◌∙◌, drop-drop, lt-ltb, le-ltb, ⊎_elim}
 use Rattle.std.proofs.Math.Path.{ap}
 use mathlib.Core.List.{List, [], ◌∷◌}
 use Rattle.std.proofs.Math.ListN.{length, drop, length-drop}
-use Rattle.search.specs.Laws.{clash, lt_or_ge}
+use Rattle.search.specs.Laws.{lt_or_ge}
 use Rattle.pieces.specs.Pieces.{in_front, pieces, before}
 use Rattle.pieces.proofs.Laws.{pieces_more, pieces_last}
 use Rattle.fields.specs.declared.Fields.{Fields}
@@ -58,41 +58,22 @@ module _ (text : List ℕ) (at : ℕ) where
   unfolding taken_at
   taken_unended form h = rw (le-ltb (end_at text at) (length text) h, taken_at)
 
-  -- a field that is taken
-  pub taken_is : (form : Form) {n behind : ℕ} → taken_at form text at ≡ Some (n, behind) → (further : ℕ → List (List ℕ) → Option Fields) → next form (fields_in (drop at text)) further ≡ further n (fields_in (drop behind text))
-  taken_is form {n} {behind} e further = ⊎_elim ended unended (lt_or_ge (end_at text at) (length text))
+  -- what comes of the fields from there on is what comes of the field that is taken and of the fields behind it
+  pub taken_next : (form : Form) (further : ℕ → List (List ℕ) → Option Fields)
+      → next form (fields_in (drop at text)) further ≡ option_and_then (λ (p : ℕ × ℕ). further p.0 (fields_in (drop p.1 text))) (taken_at form text at)
+  taken_next form further = ⊎_elim ended unended (lt_or_ge (end_at text at) (length text))
     where
-      valued : (v : Option ℕ) → placed v (end_at text at + 1) ≡ Some (n, behind) → and v (λ m. further m (fields_in (drop (end_at text at + 1) text))) ≡ further n (fields_in (drop behind text))
-      valued (Some m) q =
-          let pair : ◌≡◌ {A = ℕ × ℕ} (m, end_at text at + 1) (n, behind) = cc in
-          ap (λ (p : ℕ × ℕ). further p.0 (fields_in (drop p.1 text))) pair
-      valued None q = let z : ◌≡◌ {A = ℕ} 0 1 = cc in clash z
+      valued : (v : Option ℕ) (behind : ℕ) → and v (λ m. further m (fields_in (drop behind text))) ≡ option_and_then (λ (p : ℕ × ℕ). further p.0 (fields_in (drop p.1 text))) (placed v behind)
+      valued (Some m) behind = refl
+      valued None behind = refl
 
-      ended : end_at text at < length text → next form (fields_in (drop at text)) further ≡ further n (fields_in (drop behind text))
+      ended : end_at text at < length text → next form (fields_in (drop at text)) further ≡ option_and_then (λ (p : ℕ × ℕ). further p.0 (fields_in (drop p.1 text))) (taken_at form text at)
       ended h =
-          ap (λ (fs : List (List ℕ)). next form fs further) (fields_more h)
-          ∙ next_some form (before 44 (drop at text)) (drop (end_at text at + 1) text) further
-          ∙ valued (value_in form (before 44 (drop at text))) (sym (taken_ended form h) ∙ e)
+          rw (fields_more h, taken_ended form h)
+          (next_some form (before 44 (drop at text)) (drop (end_at text at + 1) text) further ∙ valued (value_in form (before 44 (drop at text))) (end_at text at + 1))
 
-      unended : length text ≤ end_at text at → next form (fields_in (drop at text)) further ≡ further n (fields_in (drop behind text))
-      unended h = let q = sym (taken_unended form h) ∙ e in let z : ◌≡◌ {A = ℕ} 0 1 = cc in clash z
-
-  -- a field that is not well formed, or that is the last
-  pub taken_not : (form : Form) → taken_at form text at ≡ None → (further : ℕ → List (List ℕ) → Option Fields) → next form (fields_in (drop at text)) further ≡ None
-  taken_not form e further = ⊎_elim ended unended (lt_or_ge (end_at text at) (length text))
-    where
-      valued : (v : Option ℕ) → placed v (end_at text at + 1) ≡ None → and v (λ m. further m (fields_in (drop (end_at text at + 1) text))) ≡ None
-      valued (Some m) q = let z : ◌≡◌ {A = ℕ} 0 1 = cc in clash z
-      valued None q = refl
-
-      ended : end_at text at < length text → next form (fields_in (drop at text)) further ≡ None
-      ended h =
-          ap (λ (fs : List (List ℕ)). next form fs further) (fields_more h)
-          ∙ next_some form (before 44 (drop at text)) (drop (end_at text at + 1) text) further
-          ∙ valued (value_in form (before 44 (drop at text))) (sym (taken_ended form h) ∙ e)
-
-      unended : length text ≤ end_at text at → next form (fields_in (drop at text)) further ≡ None
-      unended h = ap (λ (fs : List (List ℕ)). next form fs further) (fields_last h)
+      unended : length text ≤ end_at text at → next form (fields_in (drop at text)) further ≡ option_and_then (λ (p : ℕ × ℕ). further p.0 (fields_in (drop p.1 text))) (taken_at form text at)
+      unended h = rw (fields_last h, taken_unended form h)
 
   -- the remark is the last field, or the line has too many
   pub remark_is : (f : Fields) → length text ≤ end_at text at → remark (fields_in (drop at text)) f ≡ Some f

@@ -5,6 +5,7 @@ use Rattle.std.proofs.Common.{arith}
 use Rattle.std.proofs.lemmas.Grind.{common_steps}
 use Rattle.pieces.specs.Pieces.{before}
 use Rattle.pieces.proofs.Laws.{before_take}
+use Rattle.numerals.proofs.Laws.{within}
 use Rattle.comma.specs.Stages.{taken_at}
 use Rattle.read_field.proofs.take_field.Goals as goal
 
@@ -21,6 +22,9 @@ pub returns-in_err-number : goal.returns-in_err-number
 unfolding taken_at
 returns-in_err-number c = grind (arith, common_steps, field_is)
 
-pub returns : goal.returns
+pub returns-clause-value : goal.returns-clause-value
 unfolding taken_at
-returns c = grind (arith, common_steps, field_is)
+returns-clause-value c = grind (arith, common_steps, field_is)
+
+pub returns-clause-within : goal.returns-clause-within
+returns-clause-within c = grind (arith, common_steps, within)

@@ -1,17 +1,22 @@
 -- `read_line::line_of` meets its contract: its three stages, where it is not too long.
 -- Assumes nothing.
-use Rattle.read_line.proofs.Ends.{too_long, codes_bad, amounts_bad, line_read_lem}
-use borrow.Author.Rules.{rules}
+use Rattle.std.proofs.Common.{arith}
+use Rattle.std.proofs.lemmas.Grind.{common_steps}
+use Rattle.comma.specs.Line.{line_of}
 use Rattle.read_line.proofs.line_of.Goals as goal
 
 pub returns-then-line-gt-LONGEST : goal.returns-then-line-gt-LONGEST
-returns-then-line-gt-LONGEST c = search (too_long, rules)
+unfolding line_of
+returns-then-line-gt-LONGEST c = grind (arith, common_steps)
 
-pub returns-in_default : goal.returns-in_default
-returns-in_default c = search (codes_bad, rules)
+pub returns-in_err-codes : goal.returns-in_err-codes
+unfolding line_of
+returns-in_err-codes c = grind (arith, common_steps)
 
-pub returns-in_default-second : goal.returns-in_default-second
-returns-in_default-second c = search (amounts_bad, rules)
+pub returns-in_err-amounts : goal.returns-in_err-amounts
+unfolding line_of
+returns-in_err-amounts c = grind (arith, common_steps)
 
 pub returns : goal.returns
-returns c = search (line_read_lem, rules)
+unfolding line_of
+returns c = grind (arith, common_steps)
