@@ -41,6 +41,13 @@ pub struct Scenario {
     pub endpoint: u32,
 }
 
+// A toxic card whose pounds keep document 01's limit, by which a pool's area and rate fit their types.
+#[derive(Clone, Copy)]
+struct Limited {
+    card: ToxicCard,
+    ghost quantity_bound: { card.quantity.0 ≤ 10_000_000 },
+}
+
 // Route 1: the whole quantity as a gas over ten minutes.
 #[tactic(auto, unfolding(crate::specs::Plan::vapor_of))]
 fn vapor(card: ToxicCard, endpoint: u32, plume: Plume) -> Scenario
@@ -64,17 +71,17 @@ struct Source {
     shed: bool,
     endpoint: u32,
     plume: Plume,
+    ghost df_bound: { df ≤ 200 },
+    ghost lf_bound: { lf ≤ 1_000_000 },
+    ghost tcf_bound: { tcf ≤ 1_000 },
 }
 
 // Route 2: a pool that evaporates, and the table of its duration.
 #[tactic(auto, using(pool_area::proofs::Laws::area_limit), unfolding(crate::specs::Plan::pool_of))]
-fn pool(card: ToxicCard, source: Source) -> Scenario
-    requires quantity_bound { card.quantity.0 ≤ 10_000_000 }
-    requires df_bound { source.df ≤ 200 }
-    requires lf_bound { source.lf ≤ 1_000_000 }
-    requires tcf_bound { source.tcf ≤ 1_000 }
-    ensures { result ≡ pool_of card source.df source.lf source.tcf source.shed source.endpoint source.plume }
+fn pool(limited: Limited, source: Source) -> Scenario
+    ensures { result ≡ pool_of limited.card source.df source.lf source.tcf source.shed source.endpoint source.plume }
 {
+    let card = limited.card;
     let area = pool_area::pool_area(card.quantity, source.df, card.containment);
     let rate = release::pool_rate(source.lf, source.tcf, area, source.shed);
     let ten = release::at_most_ten_minutes(card.quantity, rate);
@@ -99,11 +106,11 @@ fn freed(card: ToxicCard, gas: Gas) -> Option<Scenario>
 }
 
 // A refrigerated gas: a pool where it runs beyond its dike's area, a vapor otherwise.
-fn refrigerated(card: ToxicCard, gas: Gas) -> Option<Scenario>
-    requires quantity_bound { card.quantity.0 ≤ 10_000_000 }
+fn refrigerated(limited: Limited, gas: Gas) -> Option<Scenario>
     requires lfb_bound { (gas.lfb ≤ 1_000_000) × (gas.df ≤ 200) }
-    ensures { result ≡ gas_plan State.Refrigerated card gas }
+    ensures { result ≡ gas_plan State.Refrigerated limited.card gas }
 {
+    let card = limited.card;
     if !pool_area::beyond_dike(card.quantity, gas.df, card.containment) {
         return Some(vapor(card, gas.endpoint, gas.plume));
     }
@@ -115,17 +122,16 @@ fn refrigerated(card: ToxicCard, gas: Gas) -> Option<Scenario>
         endpoint: gas.endpoint,
         plume: gas.plume,
     };
-    Some(pool(card, source))
+    Some(pool(limited, source))
 }
 
-fn gas_plan(card: ToxicCard, gas: Gas) -> Option<Scenario>
-    requires quantity_bound { card.quantity.0 ≤ 10_000_000 }
+fn gas_plan(limited: Limited, gas: Gas) -> Option<Scenario>
     requires lfb_bound { (gas.lfb ≤ 1_000_000) × (gas.df ≤ 200) }
-    ensures { result ≡ gas_plan card.state card gas }
+    ensures { result ≡ gas_plan limited.card.state limited.card gas }
 {
-    match card.state {
-        State::Gas | State::Pressurized => freed(card, gas),
-        State::Refrigerated => refrigerated(card, gas),
+    match limited.card.state {
+        State::Gas | State::Pressurized => freed(limited.card, gas),
+        State::Refrigerated => refrigerated(limited, gas),
         State::Liquid | State::Solution => None,
     }
 }
@@ -141,11 +147,11 @@ fn warmth(tenths: Tenths) -> Column
 }
 
 // A liquid's pool, with the factors of its temperature.
-fn spilled(card: ToxicCard, liquid: Liquid) -> Option<Scenario>
-    requires quantity_bound { card.quantity.0 ≤ 10_000_000 }
+fn spilled(limited: Limited, liquid: Liquid) -> Option<Scenario>
     requires within { Within (Toxic.OfLiquid liquid) }
-    ensures { result ≡ liquid_plan State.Liquid card liquid }
+    ensures { result ≡ liquid_plan State.Liquid limited.card liquid }
 {
+    let card = limited.card;
     let (lf, tcf) = factors::factors_at(liquid, warmth(card.tenths))?;
     let source = Source {
         df: liquid.df,
@@ -155,17 +161,16 @@ fn spilled(card: ToxicCard, liquid: Liquid) -> Option<Scenario>
         endpoint: liquid.endpoint,
         plume: liquid.plume,
     };
-    Some(pool(card, source))
+    Some(pool(limited, source))
 }
 
-fn liquid_plan(card: ToxicCard, liquid: Liquid) -> Option<Scenario>
-    requires quantity_bound { card.quantity.0 ≤ 10_000_000 }
+fn liquid_plan(limited: Limited, liquid: Liquid) -> Option<Scenario>
     requires within { Within (Toxic.OfLiquid liquid) }
-    ensures { result ≡ liquid_plan card.state card liquid }
+    ensures { result ≡ liquid_plan limited.card.state limited.card liquid }
 {
-    match card.state {
+    match limited.card.state {
         State::Gas | State::Pressurized | State::Refrigerated | State::Solution => None,
-        State::Liquid => spilled(card, liquid),
+        State::Liquid => spilled(limited, liquid),
     }
 }
 
@@ -173,20 +178,19 @@ fn liquid_plan(card: ToxicCard, liquid: Liquid) -> Option<Scenario>
 const AT_25: u16 = 100;
 
 // A solution's pool, with the factors of the concentration that is read.
-fn dissolved(card: ToxicCard, solution: Solution) -> Option<Scenario>
-    requires quantity_bound { card.quantity.0 ≤ 10_000_000 }
+fn dissolved(limited: Limited, solution: Solution) -> Option<Scenario>
     requires lfa_bound { (solution.lfa ≤ 1_000_000) × (solution.df ≤ 200) }
-    ensures { result ≡ solution_plan card solution }
+    ensures { result ≡ solution_plan limited.card solution }
 {
     let source = Source {
         df: solution.df,
         lf: solution.lfa,
         tcf: AT_25,
-        shed: release::is_building(card.containment),
+        shed: release::is_building(limited.card.containment),
         endpoint: solution.endpoint,
         plume: solution.plume,
     };
-    Some(pool(card, source))
+    Some(pool(limited, source))
 }
 
 // The scenario of a toxic card, or that its state, containment or exhibit allows none.
@@ -195,10 +199,11 @@ pub fn plan(card: ToxicCard) -> Option<Scenario>
     requires { Limits card }
     ensures { result ≡ plan_of card }
 {
+    let limited = Limited { card };
     match card.entry {
-        Toxic::OfGas(gas) => gas_plan(card, gas),
-        Toxic::OfLiquid(liquid) => liquid_plan(card, liquid),
-        Toxic::OfSolution(solution) => dissolved(card, solution),
+        Toxic::OfGas(gas) => gas_plan(limited, gas),
+        Toxic::OfLiquid(liquid) => liquid_plan(limited, liquid),
+        Toxic::OfSolution(solution) => dissolved(limited, solution),
         Toxic::OutOfRange | Toxic::NotListed => None,
     }
 }
