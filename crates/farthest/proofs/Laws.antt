@@ -106,7 +106,8 @@ module _ (c : Class) (f : Option Leader) (x : Answer) (xs : List Answer) (n : �
   here e (inl kept) = inl (sym kept.0 ∙ e)
   here e (inr taken) =
       let same : Some (leader x.number x.distance) ≡ Some (leader n d) = sym taken.0 ∙ e in
-      let far : x.distance ≡ d = cc in
+      let lead : leader x.number x.distance ≡ leader n d = cc in
+      let far : x.distance ≡ d = ap (λ (l : Leader). l.distance) lead in
       inr (
         (
           0,
@@ -114,7 +115,7 @@ module _ (c : Class) (f : Option Leader) (x : Answer) (xs : List Answer) (n : �
           record {
             stands = refl;
             of_class = taken.1;
-            numbered = cc;
+            numbered = ap (λ (l : Leader). l.number) lead;
             far = far;
             first = λ j b l. absurd (not-suc-le-zero l);
           },

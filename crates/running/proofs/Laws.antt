@@ -16,7 +16,8 @@ unfolding step_of
 on_place s t a card = go (answer_of card s.last)
   where
     go : (y : Result Answer Refusal) → step_to y s ≡ Ok (t, a) → t.place ≡ suc s.place
-    go (Ok b) q = let z : t ≡ after_card s b = cc in ap (λ (u : Running). u.place) z
+    go (Ok b) q =
+        let both : ◌≡◌ {A = Running × Answer} (t, a) (after_card s b, b) = cc in ap (λ (u : Running × Answer). u.0.place) both
     go (Err r) q = clash (cc)
 
 -- the leaders are those of the cards passed
