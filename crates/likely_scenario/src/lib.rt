@@ -48,7 +48,7 @@ fn alternative_plume(entry: Toxic) -> Plume
 }
 
 // The table of a card, by the supplied minutes.
-#[tactic(auto, unfolding(crate::specs::LikelyScenario::likely_table))]
+#[tactic(auto, using(which_table::specs::Laws::table_within), unfolding(crate::specs::LikelyScenario::likely_table))]
 fn likely_table(card: ToxicCard, minutes: u32) -> u8
     ensures { result ≡ likely_table card minutes }
 {
