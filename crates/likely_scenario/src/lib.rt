@@ -1,11 +1,11 @@
 // A likely scenario beside the worst: the table and the distance of a toxic card at a rate and a duration that the reader supplies.
 #![tactic(auto)]
 
-ghost use Rattle.std.specs.Prelude.{◌≡◌};
+ghost use Rattle.std.specs.Prelude.{◌≡◌, Ok};
 ghost use Rattle.exhibits.specs.Exhibits.{alternative_plume};
 ghost use Rattle.scenario.specs.Plan.{Limits, plan_of};
 ghost use Rattle.meaning.specs.Reading.{MeaningLimits};
-ghost use Rattle.likely_scenario.specs.LikelyScenario.{bad_rate, likely_table, told, planned_likely, meant_likely, card_likely, likely_of};
+ghost use Rattle.likely_scenario.specs.LikelyScenario.{bad_rate, likely_table, planned_likely, meant_likely, card_likely, likely_of};
 
 use exhibits::{Plume, Toxic};
 use form::Shape;
@@ -57,16 +57,6 @@ fn likely_table(card: ToxicCard, minutes: u32) -> u8
     ABOVE_WORST_CASE + worst
 }
 
-// What a reading tells, with its table.
-fn tell(found: Option<Likely>, table: u8) -> Result<LikelyScenario, Refusal>
-    ensures { result ≡ told found table }
-{
-    let Some(distance) = found else {
-        return Err(Refusal::Beyond);
-    };
-    Ok(LikelyScenario { table, distance })
-}
-
 // A toxic card that has been read: its worst case has to have a scenario, whose endpoint is this one's.
 fn planned_likely(
     card: ToxicCard,
@@ -76,24 +66,23 @@ fn planned_likely(
     requires { Limits card }
     ensures { result ≡ planned_likely (plan_of card) card rate.0 minutes }
 {
-    let Some(worst) = scenario::plan(card) else {
-        return Err(Refusal::Mismatch);
-    };
+    let worst = scenario::plan(card).ok_or(Refusal::Mismatch)?;
     let table = likely_table(card, minutes);
     let found = likely_tables::read(table, card.topography, rate, worst.endpoint);
-    tell(found, table)
+    let distance = found.ok_or(Refusal::Beyond)?;
+    Ok(LikelyScenario { table, distance })
 }
 
 // A card's meaning; a flammable card has no likely scenario.
 fn meant_likely(
-    found: Result<Meaning, Refusal>,
+    found: Meaning,
     rate: PoundsPerMinute,
     minutes: u32,
 ) -> Result<LikelyScenario, Refusal>
-    requires { MeaningLimits found }
-    ensures { result ≡ meant_likely found rate.0 minutes }
+    requires { MeaningLimits (Ok found) }
+    ensures { result ≡ meant_likely (Ok found) rate.0 minutes }
 {
-    match found? {
+    match found {
         Meaning::Toxic(card) => planned_likely(card, rate, minutes),
         Meaning::Flammable(_) => Err(Refusal::Form),
     }
@@ -106,7 +95,7 @@ fn of_card(card: &[u8], rate: u64, minutes: u32) -> Result<LikelyScenario, Refus
     let f = fields::fields_of(card);
     match form::shape_of(f)? {
         Shape::Toxic(standing) => {
-            let found = meaning::toxic_meaning(f, standing);
+            let found = meaning::toxic_meaning(f, standing)?;
             meant_likely(found, release::supplied_rate(rate), minutes)
         }
         Shape::Flammable => Err(Refusal::Form),
