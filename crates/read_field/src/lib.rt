@@ -1,7 +1,7 @@
 // One field of a comma line, read from the place where it starts, and what form the ninth field has.
 #![tactic(auto)]
 
-ghost use Rattle.std.specs.Prelude.{◌≡◌, ◌≤◌, IfSome};
+ghost use Rattle.std.specs.Prelude.{◌≡◌, ◌≤◌, length, IfSome};
 ghost use Rattle.numerals.specs.Numerals.{most_of};
 ghost use Rattle.comma.specs.Line.{tenths_form};
 ghost use Rattle.comma.specs.Stages.{taken_at};
@@ -15,7 +15,8 @@ pub const TWO_BYTES: u32 = 65_535;
 // to end it, since a number is never the last field. The number is at most what its form may hold.
 pub fn take_field(line: &[u8], at: usize, form: Form) -> Option<(u32, usize)>
     ensures value { result ≡ taken_at form line.now at }
-    ensures within { IfSome result (λ taken. taken.0 ≤ most_of form) }
+    ensures number_within { IfSome result (λ taken. taken.0 ≤ most_of form) }
+    ensures next_within { IfSome result (λ taken. taken.1 ≤ length line.now) }
 {
     let end = pieces::end_of(line, at, b',');
     if line.len() <= end {

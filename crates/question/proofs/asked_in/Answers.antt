@@ -1,22 +1,21 @@
 -- `question::asked_in` meets its contract: each stage hands on what it took. Assumes nothing.
-use borrow.Author.Rules.{rules}
-use Rattle.question.proofs.Ends.{taken_within, no_rate, no_minutes, no_card, asked}
+use Rattle.std.proofs.Common.{arith}
+use Rattle.std.proofs.lemmas.Grind.{common_steps}
+use Rattle.question.specs.Question.{asked_in}
 use Rattle.question.proofs.asked_in.Goals as goal
 
-pub returns-in_default : goal.returns-in_default
-returns-in_default c = search (no_rate, rules)
+pub returns-in_err-rate : goal.returns-in_err-rate
+unfolding asked_in
+returns-in_err-rate c = grind (arith, common_steps)
 
-pub returns-in_default-second : goal.returns-in_default-second
-returns-in_default-second c = search (no_minutes, rules)
+pub returns-in_err-minutes : goal.returns-in_err-minutes
+unfolding asked_in
+returns-in_err-minutes c = grind (arith, common_steps)
 
-pub slice_bounds-line_of-count : goal.slice_bounds-line_of-count
-slice_bounds-line_of-count c = search (taken_within, rules)
-
-pub slice_bounds-line_of-start : goal.slice_bounds-line_of-start
-slice_bounds-line_of-start c = search (taken_within, rules)
-
-pub returns-in_default-third : goal.returns-in_default-third
-returns-in_default-third c = search (no_card, rules)
+pub returns-in_err-card : goal.returns-in_err-card
+unfolding asked_in
+returns-in_err-card c = grind (arith, common_steps)
 
 pub returns : goal.returns
-returns c = search (asked, rules)
+unfolding asked_in
+returns c = grind (arith, common_steps)

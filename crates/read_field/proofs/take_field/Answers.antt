@@ -26,5 +26,5 @@ pub returns-clause-value : goal.returns-clause-value
 unfolding taken_at
 returns-clause-value c = grind (arith, common_steps, field_is)
 
-pub returns-clause-within : goal.returns-clause-within
-returns-clause-within c = grind (arith, common_steps, within)
+pub returns-clause-number_within : goal.returns-clause-number_within
+returns-clause-number_within c = grind (arith, common_steps, within)
