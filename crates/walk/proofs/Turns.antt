@@ -16,13 +16,15 @@ use Rattle.refusals.specs.declared.Refusal.{Refusal}
 use Rattle.card.specs.declared.Answer.{Answer}
 use Rattle.encode.specs.Bytes.{answer_bytes}
 use Rattle.encode.specs.Laws.{length_answer}
-use Rattle.lines.specs.Lines.{card_line}
 use Rattle.running.specs.declared.Running.{Running}
 use Rattle.running.specs.Running.{before_cards, step_of}
 use Rattle.running.proofs.Laws.{on_place}
-use Rattle.walk.specs.declared.Writes.{Writes}
-use Rattle.walk.specs.declared.Writes.TheVariants as writes
-use Rattle.walk.specs.Walk.{text_of, most_of, go_on, walk_from, write_on, text_from, end_of}
+use Rattle.walk.specs.Walk.{go_on, walk_from, write_on, text_from, end_of}
+
+-- ---- what is written of a card
+
+pub answer_put : (out after : List ℕ) (at : ℕ) (a : Answer) → after ≡ sets out at (answer_bytes a) → Wrote out after at (at + 16) (answer_bytes a)
+answer_put out after at a g = record { place = omega (arith, length_answer a); bytes = g }
 
 -- ---- the walk
 

@@ -85,9 +85,14 @@ pub fn along<W: Writes>(
     let mut running = from;
     let mut at = 0usize;
     while running.place < to {
-        let (next, answer) = running::step_at(cards, running)?;
-        at = W::put(out, at, answer);
-        running = next;
+        match running::step_at(cards, running) {
+            Ok((next, answer)) => {
+                at = W::put(out, at, answer);
+                running = next;
+            }
+            // not by `?`: in a generic function the check does not see that it hands the error on as it is
+            Err(sent) => return Err(sent),
+        }
     }
     Ok((running, at))
 }

@@ -12,8 +12,8 @@ loop-running-smaller g c = search (turn_less, rules)
 pub loop-running-preserved : goal.loop-running-preserved
 loop-running-preserved g c = search (turn_place, turn_at, turn_left, turn_written, rules)
 
-pub returns-in-step_at-Err : goal.returns-in-step_at-Err
-returns-in-step_at-Err g c = search (refused_left, refused_written, rules)
+pub returns-in-Err : goal.returns-in-Err
+returns-in-Err g c = search (refused_left, refused_written, rules)
 
 pub returns : goal.returns
 returns g c = search (end_left, end_written, end_within, rules)
