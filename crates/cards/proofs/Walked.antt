@@ -67,8 +67,9 @@ module _ (told : Answer → List ℕ) (n : ℕ) (s : Running) (bytes : List ℕ)
     where
       go : (c : Cards) → cards_from n s.place s.last bytes ≡ c → walked_as told s 0 c ≡ Ok (t, size) → Passed told n s bytes t size
       go (answers xs) q u =
-          let z : 0 + length (texts_of told xs) ≡ size = cc in
-          record { list = xs; cards = q; running = cc; text = text_is told n s bytes xs q; sized = omega arith }
+          let both : ◌≡◌ {A = Running × ℕ} (running_after s xs, 0 + length (texts_of told xs)) (t, size) = cc in
+          let z : 0 + length (texts_of told xs) ≡ size = ap (λ (b : Running × ℕ). b.1) both in
+          record { list = xs; cards = q; running = ap (λ (b : Running × ℕ). b.0) both; text = text_is told n s bytes xs q; sized = omega arith }
       go (sent_back r place) q u = clash (cc)
 
   -- and where it stopped, the cards are sent back there

@@ -5,16 +5,16 @@ use borrow.Author.Rules.{rules}
 use Rattle.cards.proofs.answer_through.Goals as goal
 
 pub slice_bounds-put_text-end : goal.slice_bounds-put_text-end
-slice_bounds-put_text-end c = search (part_there, rules)
+slice_bounds-put_text-end c = let q = c.in_ok-running.was {u = tt} in search (part_there, q, rules)
 
-pub slice_bounds-put_text-end-in-On : goal.slice_bounds-put_text-end-in-On
-slice_bounds-put_text-end-in-On c = search (part_length, rules)
+pub slice_bounds-put_text-end-2 : goal.slice_bounds-put_text-end-2
+slice_bounds-put_text-end-2 c = let q = c.in_ok-running.was {u = tt} in search (part_length, q, rules)
 
 pub put_text-requires : goal.put_text-requires
-put_text-requires c = search (part_fits, rules)
+put_text-requires c = let q = c.in_ok-running.was {u = tt} in search (part_fits, q, rules)
 
-pub returns-in-Ok : goal.returns-in-Ok
-returns-in-Ok c = search (on_result, copied, rules)
+pub returns-in_err-running : goal.returns-in_err-running
+returns-in_err-running c = let q = c.in_err-running.was {u = tt} in search (refused_result, refused_kept, q, rules)
 
-pub returns-in-Err : goal.returns-in-Err
-returns-in-Err c = search (refused_result, refused_kept, rules)
+pub returns : goal.returns
+returns c = let q = c.in_ok-running.was {u = tt} in search (on_result, copied, q, rules)
