@@ -11,6 +11,7 @@ use interpolation::Likely;
 use likely_scenario::LikelyScenario;
 
 // The miles of a distance and its bits, up to the end of the line.
+#[tactic(auto, using(float_text::proofs::UpLaws::number_not_nan))]
 fn put_numbers(out: &mut [u8], at: usize, hundredths: f64) -> usize
     requires { (at + 48 ≤ length out.old) × Number hundredths }
     ensures wrote { Wrote out.old out.new at result (numbers_text hundredths) }

@@ -1,7 +1,9 @@
 -- `likely_line::put_scenario` meets its contract. Assumes nothing.
 use borrow.Author.Rules.{rules}
-use Rattle.likely_line.proofs.Ends.{scenario_line_lem}
+use Rattle.buffer.proofs.Laws.{joined}
+use Rattle.likely_line.specs.LikelyLine.{scenario_line}
 use Rattle.likely_line.proofs.put_scenario.Goals as goal
 
-pub returns : goal.returns
-returns c = search (scenario_line_lem, rules)
+pub returns-clause-wrote : goal.returns-clause-wrote
+unfolding scenario_line
+returns-clause-wrote c = search (joined, rules)

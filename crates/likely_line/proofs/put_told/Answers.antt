@@ -1,7 +1,7 @@
 -- `likely_line::put_told` meets its contract. Assumes nothing.
 use borrow.Author.Rules.{rules}
-use Rattle.likely_line.proofs.Ends.{told_text}
+use Rattle.buffer.proofs.Laws.{joined}
 use Rattle.likely_line.proofs.put_told.Goals as goal
 
-pub returns : goal.returns
-returns c = search (told_text, rules)
+pub returns-clause-wrote : goal.returns-clause-wrote
+returns-clause-wrote c = search (joined, rules)
