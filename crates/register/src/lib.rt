@@ -14,7 +14,7 @@ fn answer_by<const ROOM: usize>(
     count: usize,
     answers: &mut [u8],
 ) -> Result<Leaders, SentBack<u32>>
-    requires { (16 * count ≤ ROOM) × (count ≤ 2000) × (24 * count ≤ length cards.now) × (16 * count ≤ length answers.old) }
+    requires { (16 * count ≤ ROOM) × (ROOM ≤ 32_000) × (count ≤ 2000) × (24 * count ≤ length cards.now) × (16 * count ≤ length answers.old) }
     ensures value { result ≡ result_of (cards_from count 0 0 cards.now) }
     ensures answers_after { answers.new ≡ filled_with (cards_from count 0 0 cards.now) answers.old }
 {

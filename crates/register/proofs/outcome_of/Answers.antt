@@ -4,17 +4,17 @@ use Rattle.cards.proofs.Laws.{header_refused, header_good, good}
 use borrow.Author.Rules.{rules}
 use Rattle.register.proofs.outcome_of.Goals as goal
 
-pub returns-in_default : goal.returns-in_default
-returns-in_default c = search (header_refused, rules)
+pub returns-in_err-count : goal.returns-in_err-count
+returns-in_err-count c = let q = c.in_err-count.was {u = tt} in search (q, header_refused, rules)
 
 pub slice_bounds-ask-count : goal.slice_bounds-ask-count
-slice_bounds-ask-count c = search (good, rules)
+slice_bounds-ask-count c = let q = c.in_ok-count.was {u = tt} in search (q, good, rules)
 
 pub slice_bounds-ask-start : goal.slice_bounds-ask-start
-slice_bounds-ask-start c = search (good, rules)
+slice_bounds-ask-start c = let q = c.in_ok-count.was {u = tt} in search (q, good, rules)
 
 pub ask-requires : goal.ask-requires
-ask-requires c = search (good, rules)
+ask-requires c = let q = c.in_ok-count.was {u = tt} in search (q, good, rules)
 
 pub returns : goal.returns
-returns c = search (header_good, rules)
+returns c = let q = c.in_ok-count.was {u = tt} in search (q, header_good, rules)
