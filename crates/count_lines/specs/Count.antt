@@ -8,8 +8,3 @@ use Rattle.comma.specs.Text.{Cards, cards, bad}
 abbrev pub count_from : ℕ → Cards → Result ℕ ℕ
 count_from n (cards xs) = Ok (n + length xs)
 count_from n (bad k) = Err k
-
--- the line of an answer that has one; 0 where it has none
-abbrev pub bad_line : Result ℕ ℕ → ℕ
-bad_line (Ok n) = 0
-bad_line (Err k) = k

@@ -25,9 +25,7 @@ pub fn count_lines(text: &[u8]) -> Result<usize, usize>
     let mut at = 0usize;
     while at < text.len() {
         let end = line_end(text, at);
-        if read_line::line_of(&text[at..end]).is_none() {
-            return Err(count + 1);
-        }
+        read_line::line_of(&text[at..end]).ok_or(count + 1)?;
         count += 1;
         at = end + 1;
     }
