@@ -44,15 +44,10 @@ pub fn tell_likely(
     ensures hundredths_after { hundredths.new ≡ hundredths_after answer hundredths.old }
 {
     match answer {
-        Ok(
-            LikelyScenario {
-                table: number,
-                distance,
-            },
-        ) => {
-            *table = number as u64;
-            *found = found_of(distance);
-            *hundredths = hundredths_of(distance);
+        Ok(scenario) => {
+            *table = scenario.table as u64;
+            *found = found_of(scenario.distance);
+            *hundredths = hundredths_of(scenario.distance);
             0
         }
         Err(refusal) => words::code_of(refusal, 0),
