@@ -20,11 +20,11 @@ module _ {b₀ b₁ b₂ : List ℕ} {at mid end : ℕ} where
   none_line letter f e start word = subst (λ (g : Option Leader). Wrote b₀ b₂ at end (leader_line letter g)) (sym e) (joined start word)
 
 module _ {b₀ b₁ b₂ b₃ b₄ : List ℕ} {at second third fourth end : ℕ} where
-  pub leading_line : (letter number : ℕ) (d : Miles) → Wrote b₀ b₁ at second (letter ∷ []) → Wrote b₁ b₂ second third (32 ∷ [])
-      → Wrote b₂ b₃ third fourth (spaced (digits number)) → Wrote b₃ b₄ fourth end (miles_text d.0)
-      → Wrote b₀ b₄ at end (leader_line letter (Some (leader number d)))
+  pub leading_line : (letter : ℕ) (lead : Leader) → Wrote b₀ b₁ at second (letter ∷ []) → Wrote b₁ b₂ second third (32 ∷ [])
+      → Wrote b₂ b₃ third fourth (spaced (digits lead.number)) → Wrote b₃ b₄ fourth end (miles_text lead.distance.0)
+      → Wrote b₀ b₄ at end (leader_line letter (Some lead))
   unfolding leader_line
-  leading_line letter number d start space card miles = joined start (joined space (joined card miles))
+  leading_line letter lead start space card miles = joined start (joined space (joined card miles))
 
   pub refused_line_lem : (number place : ℕ) → Wrote b₀ b₁ at second (114 ∷ 101 ∷ 102 ∷ 117 ∷ 115 ∷ 101 ∷ 100 ∷ 32 ∷ [])
       → Wrote b₁ b₂ second third (digits number) → Wrote b₂ b₃ third fourth (32 ∷ 97 ∷ 116 ∷ 32 ∷ [])
@@ -33,7 +33,7 @@ module _ {b₀ b₁ b₂ b₃ b₄ : List ℕ} {at second third fourth end : ℕ
   refused_line_lem number place word refusal word' last = joined word (joined refusal (joined word' last))
 
 -- the line of a class that has a card is that card's
-pub leader_line_lem : {before after : List ℕ} {at end : ℕ} (letter number : ℕ) (d : Miles) (f : Option Leader) → f ≡ Some (leader number d)
-    → Wrote before after at end (leader_line letter (Some (leader number d))) → Wrote before after at end (leader_line letter f)
-leader_line_lem {before} {after} {at} {end} letter number d f e line =
+pub leader_line_lem : {before after : List ℕ} {at end : ℕ} (letter : ℕ) (lead : Leader) (f : Option Leader) → f ≡ Some lead
+    → Wrote before after at end (leader_line letter (Some lead)) → Wrote before after at end (leader_line letter f)
+leader_line_lem {before} {after} {at} {end} letter lead f e line =
     subst (λ (g : Option Leader). Wrote before after at end (leader_line letter g)) (sym e) line

@@ -1,7 +1,7 @@
 -- The walk that writes lines comes to the lines of the cards and the leaders, and the outcome of a register to its text.
 -- Assumes nothing.
 use Rattle.std.specs.Prelude.{ℕ, ◌-◌, ◌≤◌, ◌≡◌, refl, List, [], ◌∷◌, ◌++◌, length, take, drop, Option, Some, Result, Ok, Err}
-use Rattle.refusals.specs.Numbers.{refused_at}
+use Rattle.refusals.specs.declared.SentBack.{SentBack}
 use Rattle.std.proofs.Common.{arith, ◌∙◌, ap₂, sym, subst, length-take}
 use Rattle.std.proofs.Math.Path.{ap}
 use Rattle.search.specs.Laws.{clash}

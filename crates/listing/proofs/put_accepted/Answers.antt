@@ -15,11 +15,11 @@ slice_bounds-through-count c = search (good, rules)
 pub slice_bounds-through-start : goal.slice_bounds-through-start
 slice_bounds-through-start c = search (good, rules)
 
-pub through-walked-requires : goal.through-walked-requires
-through-walked-requires c = search (lines_room, good, rules)
+pub through-requires : goal.through-requires
+through-requires c = search (lines_room, good, rules)
 
-pub returns-in_default-walked : goal.returns-in_default-walked
-returns-in_default-walked c = search (never_stopped, rules)
+pub returns-in_default-through : goal.returns-in_default-through
+returns-in_default-through c = search (never_stopped, rules)
 
 pub put_leaders-requires : goal.put_leaders-requires
 put_leaders-requires c = search (behind_cards, good, rules)
