@@ -2,7 +2,6 @@
 #![tactic(auto)]
 
 ghost use Rattle.std.specs.Prelude.{◌≡◌};
-ghost use Rattle.std.specs.Int.Signed.{lt_z};
 ghost use Rattle.factors.specs.Factors.{column_of, of_cell, factors_of};
 
 use exhibits::{Cell, Liquid};
@@ -19,36 +18,21 @@ pub enum Column {
     Above,
 }
 
-// Whether a temperature is below a limit, both in signed tenths.
-pub fn below(tenths: i16, limit: i16) -> bool
-    ensures { result ≡ lt_z tenths limit }
-{
-    tenths < limit
-}
-
-// The closest column of B-4, the higher at a midpoint; above 50.0 °C no column is read.
+// The closest column of B-4, the higher at a midpoint; above 50.0 °C no column is read. Each column is read from
+// the midpoint below it on.
+#[tactic(auto, unfolding(crate::specs::Factors::column_of))]
 pub fn closest_column(tenths: i16) -> Column
     ensures { result ≡ column_of tenths }
 {
-    if below(500, tenths) {
-        return Column::Above;
+    match tenths {
+        501.. => Column::Above,
+        475.. => Column::At50,
+        425.. => Column::At45,
+        375.. => Column::At40,
+        325.. => Column::At35,
+        275.. => Column::At30,
+        _ => Column::At25,
     }
-    if below(tenths, 275) {
-        return Column::At25;
-    }
-    if below(tenths, 325) {
-        return Column::At30;
-    }
-    if below(tenths, 375) {
-        return Column::At35;
-    }
-    if below(tenths, 425) {
-        return Column::At40;
-    }
-    if below(tenths, 475) {
-        return Column::At45;
-    }
-    Column::At50
 }
 
 // What a cell of B-4 makes of a liquid's factors: the liquid factor and the temperature factor, or none where the exhibit has no
