@@ -7,6 +7,7 @@ ghost use Rattle.pool_area.specs.Pool.{full_area, diked_area, pool_area, beyond_
 use release::{Containment, Dike};
 use units::{Pounds, SquareFeet};
 
+#[tactic(auto, using(crate::proofs::Laws::full_below))]
 fn full_area(quantity: Pounds, df: u8) -> u64
     ensures { result ≡ full_area quantity.0 df }
 {
@@ -15,6 +16,7 @@ fn full_area(quantity: Pounds, df: u8) -> u64
 }
 
 // What an overflowing dike's pool covers, in whole hundredths: the closed form that the law `diked_closed` has.
+#[tactic(auto, using(crate::proofs::Laws::held_below, crate::proofs::Laws::full_below, crate::proofs::Laws::diked_closed))]
 fn diked_area(quantity: Pounds, df: u8, dike: Dike) -> u64
     ensures { result ≡ diked_area (full_area quantity.0 df) dike.area.0 dike.wall }
 {
