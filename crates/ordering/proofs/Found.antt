@@ -2,6 +2,7 @@
 -- Assumes nothing.
 use Rattle.std.specs.Prelude.{ℕ, zero, suc, ◌+◌, ◌*◌, ◌≤◌, ◌<◌, ◌≡◌, refl, Bool, true, false, List, [], ◌∷◌, take, drop, Result, Ok, Err}
 use Rattle.refusals.specs.declared.Refusal.{Refusal}
+use Rattle.refusals.specs.declared.SentBack.{SentBack}
 use Rattle.std.proofs.Common.{zero-le, suc-le-suc, arith, le_of_suc-le-suc, not-suc-le-zero, ◌∙◌, sym, ap, subst, drop-drop, le-ltb}
 use Rattle.search.specs.Laws.{clash}
 use Rattle.refusals.specs.declared.Refusal.TheVariants as refusal
@@ -82,7 +83,7 @@ checked bytes room n = go (bad_length bytes) (bad_version bytes) (bad_count byte
     go false false false true p q r s e = clash (cc)
     go false false false false p q r s e = record { whole = p; version = q; cards = r; buffer = s; count = good_is e }
       where
-        good_is : {m k : ℕ} → Ok m ≡ Ok k → m ≡ k
+        good_is : {m k : ℕ} → ◌≡◌ {A = Result ℕ Refusal} (Ok m) (Ok k) → m ≡ k
         good_is u = cc
 
 pub header_count : (bytes : List ℕ) (room n : ℕ) → header_of bytes room ≡ Ok n → count_of bytes ≡ n
@@ -106,7 +107,7 @@ unfolding cards_of
 cards_found bytes n (answers xs) k p e =
     record { list = xs; cards = ap (λ y. cards_from y 0 0 (drop 7 bytes)) k ∙ p; leads = accepted_is e }
   where
-    accepted_is : {l m : Leaders} → Ok l ≡ Ok m → l ≡ m
+    accepted_is : {l m : Leaders} → ◌≡◌ {A = Result Leaders (SentBack ℕ)} (Ok l) (Ok m) → l ≡ m
     accepted_is q = cc
 cards_found bytes n (sent_back r place) k p e = let z : ◌≡◌ {A = ℕ} 0 1 = cc in clash z
 

@@ -32,10 +32,10 @@ use Rattle.card.specs.declared.Answer.{Answer}
 use Rattle.card.specs.Answers.{read_toxic, planned_answer, answer_for, answer_of}
 use Rattle.ordering.specs.Order.{kind_of, route_in, table_in, route_of, table_of, Counterpart}
 
-answer_is : {a b : Answer} → Ok a ≡ Ok b → a ≡ b
+answer_is : {a b : Answer} → ◌≡◌ {A = Result Answer Refusal} (Ok a) (Ok b) → a ≡ b
 answer_is e = cc
 
-refused_not : {r : Refusal} {a : Answer} → Err r ≡ Ok a → ⊥
+refused_not : {r : Refusal} {a : Answer} → ◌≡◌ {A = Result Answer Refusal} (Err r) (Ok a) → ⊥
 refused_not e = let z : ◌≡◌ {A = ℕ} 0 1 = cc in clash z
 
 -- what a toxic answer was read from
