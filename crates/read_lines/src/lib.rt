@@ -2,7 +2,7 @@
 // that is not well formed and to count them, and once to write the cards.
 #![tactic(auto)]
 
-ghost use Rattle.std.specs.Prelude.{◌≡◌, ◌+◌, ◌*◌, ◌≤◌, length};
+ghost use Rattle.std.specs.Prelude.{Ok, ◌≡◌, ◌+◌, ◌*◌, ◌≤◌, length};
 ghost use Rattle.comma.specs.Text.{cards_in, reading_of, read_into};
 ghost use Rattle.count_lines.specs.Count.{count_from};
 ghost use Rattle.read_lines.specs.Walk.{laid_from};
@@ -14,16 +14,13 @@ fn put_cards(text: &[u8], count: usize, out: &mut [u8])
     requires { (count_from 0 (cards_in text.now) ≡ Ok count) × (count ≤ 2000) × (7 + 24 * count ≤ length out.old) }
     ensures { out.new ≡ laid_from 7 (cards_in text.now) out.old }
 {
-    let mut place = 0usize;
     let mut at = 0usize;
-    while place < count {
-        let start = 7 + 24 * place;
+    for place in 0..count {
         let end = count_lines::line_end(text, at);
         let Some(fields) = read_line::line_of(&text[at..end]) else {
             return;
         };
-        register_bytes::put_card(out, start, fields);
-        place += 1;
+        register_bytes::put_card(out, 7 + 24 * place, fields);
         at = end + 1;
     }
 }
@@ -35,9 +32,9 @@ pub fn read(text: &[u8], out: &mut [u8]) -> Result<usize, SentBack<usize>>
     ensures out_after { out.new ≡ read_into text.now out.old }
 {
     let lines = count_lines::count_lines(text);
-    let count = lines.map_err(|line| SentBack {
+    let count = lines.map_err(|place| SentBack {
         refusal: Refusal::Line,
-        place: line,
+        place,
     })?;
     if header::MOST_CARDS < count || out.len() < 7 + 24 * count {
         return Err(SentBack {

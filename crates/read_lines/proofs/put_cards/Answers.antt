@@ -1,4 +1,3 @@
-use Prim.Native.Nat.{◌-◌}
 use Rattle.read_lines.specs.Laws.{lay_start, lay_counted, lay_there, lay_next, lay_turn, lay_bad, lay_end}
 use borrow.Author.Rules.{rules}
 use Rattle.read_lines.proofs.put_cards.Goals as goal

@@ -1,21 +1,31 @@
 -- `read_lines::read` meets its contract: a bad line, too many lines, too little room, or the register.
 -- Assumes nothing.
-use Rattle.read_lines.specs.Laws.{counted_good}
-use Rattle.read_lines.proofs.Ends.{bad_answer, bad_kept, many_answer, many_kept, short_answer, short_kept, read_answer, read_written}
-use borrow.Author.Rules.{rules}
+use Rattle.std.proofs.Common.{arith}
+use Rattle.std.proofs.lemmas.Grind.{common_steps}
+use Rattle.comma.specs.Text.{bad_room, reading_of, read_into}
+use Rattle.read_lines.proofs.Ends.{register_written}
 use Rattle.read_lines.proofs.read.Goals as goal
 
-pub returns-in_default : goal.returns-in_default
-returns-in_default c = search (bad_answer, bad_kept, rules)
+pub returns-in_err-count-clause-value : goal.returns-in_err-count-clause-value
+unfolding reading_of
+returns-in_err-count-clause-value c = grind (arith, common_steps)
 
-pub returns-then-count-gt-MOST_CARDS : goal.returns-then-count-gt-MOST_CARDS
-returns-then-count-gt-MOST_CARDS c = search (many_answer, many_kept, rules)
+pub returns-in_err-count-clause-out_after : goal.returns-in_err-count-clause-out_after
+unfolding read_into
+returns-in_err-count-clause-out_after c = grind (arith, common_steps)
 
-pub returns-then-out-size : goal.returns-then-out-size
-returns-then-out-size c = search (short_answer, short_kept, rules)
+pub returns-then-count-gt-MOST_CARDS-clause-value : goal.returns-then-count-gt-MOST_CARDS-clause-value
+unfolding reading_of bad_room
+returns-then-count-gt-MOST_CARDS-clause-value c = grind (arith, common_steps)
 
-pub put_cards-requires : goal.put_cards-requires
-put_cards-requires c = search (counted_good, rules)
+pub returns-then-count-gt-MOST_CARDS-clause-out_after : goal.returns-then-count-gt-MOST_CARDS-clause-out_after
+unfolding read_into bad_room
+returns-then-count-gt-MOST_CARDS-clause-out_after c = grind (arith, common_steps)
 
-pub returns : goal.returns
-returns c = search (read_answer, read_written, rules)
+pub returns-clause-value : goal.returns-clause-value
+unfolding reading_of bad_room
+returns-clause-value c = grind (arith, common_steps)
+
+pub returns-clause-out_after : goal.returns-clause-out_after
+unfolding read_into bad_room
+returns-clause-out_after c = grind (arith, common_steps, register_written)
