@@ -1,6 +1,6 @@
 -- What a card comes to is the first of its conditions that holds.
 -- Assumes nothing.
-use Rattle.std.specs.Prelude.{ℕ, ◌≡◌, refl, Bool, false, List, [], ◌∷◌, eqb, ltb, drop, Option, Some, None, Result, Ok, Err}
+use Rattle.std.specs.Prelude.{ℕ, ◌≡◌, refl, Bool, false, List, [], ◌∷◌, eqb, drop, Option, Some, None, Result, Ok, Err}
 use Rattle.card.specs.declared.Answer.{Answer}
 use Rattle.dispersion.specs.declared.Ground.{Ground}
 use Rattle.release.specs.declared.Containment.{Containment}
@@ -75,7 +75,7 @@ unmet b r {v} {w} e h = h ∙ ap (λ t. pick t r w) (sym e)
 
 -- a form is refused for its form
 heat_refused : (b : Bool) (s : Standing) {r : Refusal} → shaped_heat b s ≡ Err r → refusal.Form ≡ r
-heat_refused true s e = let z : ◌≡◌ {A = ℕ} 0 1 = cc in clash z
+heat_refused true s e = clash (cc)
 heat_refused false s e = cc
 
 held_refused : (h : Option Containment) (f : Fields) (s : State) (g : Option Ground) {r : Refusal} → shaped_held h f s g ≡ Err r → refusal.Form ≡ r
@@ -88,7 +88,7 @@ state_refused (Some s) f e = held_refused (held_of f.containment f.area f.wall) 
 state_refused None f e = cc
 
 blank_refused : (b : Bool) {r : Refusal} → shaped_blank b ≡ Err r → refusal.Form ≡ r
-blank_refused true e = let z : ◌≡◌ {A = ℕ} 0 1 = cc in clash z
+blank_refused true e = clash (cc)
 blank_refused false e = cc
 
 pub form_refused : (f : Fields) {r : Refusal} → shape_of f ≡ Err r → refusal.Form ≡ r

@@ -165,7 +165,7 @@ no_state_lem b h =
 -- the temperature, which is "for state 4; zero otherwise", or the concentration for state 5
 heat_form : (b heat : ℕ) (s : State) → state_of b ≡ Some s → both (unlisted b (4 ∷ 5 ∷ [])) (not (eqb heat 0)) ≡ not (heat_fits s heat)
 unfolding state_of unlisted among
-heat_form zero heat s e = let z : ◌≡◌ {A = ℕ} 0 1 = cc in clash z
+heat_form zero heat s e = clash (cc)
 heat_form (suc zero) heat s e = ap (λ x. not (heat_fits x heat)) (state_is e)
 heat_form (suc (suc zero)) heat s e = ap (λ x. not (heat_fits x heat)) (state_is e)
 heat_form (suc (suc (suc zero))) heat s e = ap (λ x. not (heat_fits x heat)) (state_is e)
@@ -173,8 +173,7 @@ heat_form (suc (suc (suc (suc zero)))) heat s e = ap (λ x. not (heat_fits x hea
 heat_form (suc (suc (suc (suc (suc zero))))) heat s e = ap (λ x. not (heat_fits x heat)) (state_is e)
 heat_form (suc (suc (suc (suc (suc (suc n)))))) heat s e =
     let none : state_of (suc (suc (suc (suc (suc (suc n)))))) ≡ None = no_state_lem (suc (suc (suc (suc (suc (suc n)))))) (omega arith) in
-    let z : ◌≡◌ {A = ℕ} 0 1 = cc in
-    clash z
+    clash (cc)
 
 -- the tests in turn
 regroup : (c a w rest : Bool) → either c (either a (either w rest)) ≡ either (either c (either a w)) rest
@@ -252,8 +251,8 @@ shape_form (suc (suc (suc n))) t f x y p q =
   where
     go : (a b : Bool) → a ≡ false → b ≡ false → either (not (either a (either b false))) (either (both a t) (either (both b f) false)) ≡ is_refused (elim a as (λ _. Result Shape Refusal) [ true ↦ x | false ↦ elim b as (λ _. Result Shape Refusal) [ true ↦ y | false ↦ Err refusal.Form ] ])
     go false false u v = refl
-    go true b u v = let z : ◌≡◌ {A = ℕ} 0 1 = cc in clash z
-    go false true u v = let z : ◌≡◌ {A = ℕ} 0 1 = cc in clash z
+    go true b u v = clash (cc)
+    go false true u v = clash (cc)
 
 -- 6 holds exactly where the form of a card is refused
 pub form_is : (card : List ℕ) → bad_form card ≡ is_refused (shape_of (fields_of card))

@@ -16,7 +16,7 @@ use Rattle.exhibits.specs.declared.Liquid as liquids
 use Rattle.exhibits.specs.declared.Toxic.{Toxic}
 use Rattle.exhibits.specs.declared.Toxic.TheVariants.{OfGas, OfLiquid, OfSolution, OutOfRange, NotListed}
 use Rattle.exhibits.specs.Printed.{solution}
-use Rattle.exhibits.specs.Exhibits.{factors_of, toxic_of}
+use Rattle.exhibits.specs.Exhibits.{toxic_of}
 use Rattle.solutions.specs.Solutions.{solution_of}
 use Rattle.solutions.proofs.SolutionLaws.{Says, a_line, out_of_range, not_listed, says}
 use Rattle.rules.specs.Rules.{larger, closest}
@@ -71,13 +71,13 @@ unfolding column_of
 not_above t e q = go (lt_z (pos 500) t) (lt_z t (pos 275)) (lt_z t (pos 325)) (lt_z t (pos 375)) (lt_z t (pos 425)) (lt_z t (pos 475)) e q
   where
     go : (a b c d f g : Bool) → a ≡ false → (elim a as (λ _. Column) [ true ↦ Above | false ↦ elim b as (λ _. Column) [ true ↦ At25 | false ↦ elim c as (λ _. Column) [ true ↦ At30 | false ↦ elim d as (λ _. Column) [ true ↦ At35 | false ↦ elim f as (λ _. Column) [ true ↦ At40 | false ↦ elim g as (λ _. Column) [ true ↦ At45 | false ↦ At50 ] ] ] ] ] ]) ≡ Above → ⊥
-    go true b c d f g u v = let z : ◌≡◌ {A = ℕ} 0 1 = cc in clash z
-    go false true c d f g u v = let z : ◌≡◌ {A = ℕ} 0 1 = cc in clash z
-    go false false true d f g u v = let z : ◌≡◌ {A = ℕ} 0 1 = cc in clash z
-    go false false false true f g u v = let z : ◌≡◌ {A = ℕ} 0 1 = cc in clash z
-    go false false false false true g u v = let z : ◌≡◌ {A = ℕ} 0 1 = cc in clash z
-    go false false false false false true u v = let z : ◌≡◌ {A = ℕ} 0 1 = cc in clash z
-    go false false false false false false u v = let z : ◌≡◌ {A = ℕ} 0 1 = cc in clash z
+    go true b c d f g u v = clash (cc)
+    go false true c d f g u v = clash (cc)
+    go false false true d f g u v = clash (cc)
+    go false false false true f g u v = clash (cc)
+    go false false false false true g u v = clash (cc)
+    go false false false false false true u v = clash (cc)
+    go false false false false false false u v = clash (cc)
 
 is_above : (t : ℤ) → lt_z (pos 500) t ≡ true → column_of t ≡ Above
 unfolding column_of
@@ -179,7 +179,7 @@ unfit gas liquid state dike cell =
 
 gas_unfit : (b : ℕ) (s : State) (dike cell : Bool) (card : ToxicCard) (g : gases.Gas) → (b ≡ 5 → ⊥) → state_of b ≡ Some s → dike ≡ is_dike card.containment → unfit true false b dike cell ≡ is_mismatch (gas_plan s card g)
 unfolding state_of among
-gas_unfit zero s dike cell card g n e d = let z : ◌≡◌ {A = ℕ} 0 1 = cc in clash z
+gas_unfit zero s dike cell card g n e d = clash (cc)
 gas_unfit (suc zero) s dike cell card g n e d =
     last_of_two dike ∙ (d ∙ (undiked_mismatch card.containment (vapor_of card g.endpoint g.plume) ∙ ap (λ x. is_mismatch (gas_plan x card g)) (state_is e)))
 gas_unfit (suc (suc zero)) s dike cell card g n e d =
@@ -192,12 +192,11 @@ gas_unfit (suc (suc (suc (suc zero)))) s dike cell card g n e d = ap (λ x. is_m
 gas_unfit (suc (suc (suc (suc (suc zero))))) s dike cell card g n e d = absurd (n refl)
 gas_unfit (suc (suc (suc (suc (suc (suc n)))))) s dike cell card g _ e d =
     let none : state_of (suc (suc (suc (suc (suc (suc n)))))) ≡ None = no_state_lem (suc (suc (suc (suc (suc (suc n)))))) (omega arith) in
-    let z : ◌≡◌ {A = ℕ} 0 1 = cc in
-    clash z
+    clash (cc)
 
 liquid_unfit : (b : ℕ) (s : State) (dike cell : Bool) (card : ToxicCard) (l : liquids.Liquid) → (b ≡ 5 → ⊥) → state_of b ≡ Some s → cell ≡ is_missing (tabled.factors_of l (column_in card.tenths)) → unfit false true b dike cell ≡ is_mismatch (liquid_plan s card l)
 unfolding state_of among
-liquid_unfit zero s dike cell card l n e d = let z : ◌≡◌ {A = ℕ} 0 1 = cc in clash z
+liquid_unfit zero s dike cell card l n e d = clash (cc)
 liquid_unfit (suc zero) s dike cell card l n e d = ap (λ x. is_mismatch (liquid_plan x card l)) (state_is e)
 liquid_unfit (suc (suc zero)) s dike cell card l n e d = ap (λ x. is_mismatch (liquid_plan x card l)) (state_is e)
 liquid_unfit (suc (suc (suc zero))) s dike cell card l n e d = ap (λ x. is_mismatch (liquid_plan x card l)) (state_is e)
@@ -207,8 +206,7 @@ liquid_unfit (suc (suc (suc (suc zero)))) s dike cell card l n e d =
 liquid_unfit (suc (suc (suc (suc (suc zero))))) s dike cell card l n e d = absurd (n refl)
 liquid_unfit (suc (suc (suc (suc (suc (suc n)))))) s dike cell card l _ e d =
     let none : state_of (suc (suc (suc (suc (suc (suc n)))))) ≡ None = no_state_lem (suc (suc (suc (suc (suc (suc n)))))) (omega arith) in
-    let z : ◌≡◌ {A = ℕ} 0 1 = cc in
-    clash z
+    clash (cc)
 
 -- a state that 10 does not speak of
 none_of_four : (g l d x : Bool) → either (both g false) (either (both l false) (either (both d false) (either (both false x) false))) ≡ false

@@ -47,7 +47,7 @@ state_in_lem b s e = go (eqb b 1) (eqb b 2) (eqb b 3) (eqb b 4) (eqb b 5) e
     go false false true t u x = state_is x
     go false false false true u x = state_is x
     go false false false false true x = state_is x
-    go false false false false false x = let z : ◌≡◌ {A = ℕ} 0 1 = cc in clash z
+    go false false false false false x = clash (cc)
 
 ground_in_lem : (b : ℕ) (g : Ground) → ground_of b ≡ Some g → ground_in b ≡ g
 unfolding ground_of ground_in
@@ -56,7 +56,7 @@ ground_in_lem b g e = go (eqb b 1) (eqb b 2) e
     go : (p q : Bool) → (elim p as (λ _. Option Ground) [ true ↦ Some Rural | false ↦ elim q as (λ _. Option Ground) [ true ↦ Some Urban | false ↦ None ] ]) ≡ Some g → (elim p as (λ _. Ground) [ true ↦ Rural | false ↦ Urban ]) ≡ g
     go true q x = ground_is x
     go false true x = ground_is x
-    go false false x = let z : ◌≡◌ {A = ℕ} 0 1 = cc in clash z
+    go false false x = clash (cc)
 
 pub held_in_lem : (b area wall : ℕ) (c : Containment) → held_of b area wall ≡ Some c → held_in b area wall ≡ c
 unfolding held_of open_of held_in

@@ -41,15 +41,15 @@ pub record Leading (cs : List Condition) (r : Refusal) : Type 0 where
 -- where none is first, none holds
 pub none_holds : (cs : List Condition) → first_of cs ≡ passed → (i : ℕ) → holds_in cs i ≡ true → ⊥
 unfolding first_of
-none_holds [] e i h = let z : ◌≡◌ {A = ℕ} 0 1 = cc in clash z
-none_holds (condition r true ∷ rest) e i h = let z : ◌≡◌ {A = ℕ} 0 1 = cc in clash z
-none_holds (condition r false ∷ rest) e zero h = let z : ◌≡◌ {A = ℕ} 0 1 = cc in clash z
+none_holds [] e i h = clash (cc)
+none_holds (condition r true ∷ rest) e i h = clash (cc)
+none_holds (condition r false ∷ rest) e zero h = clash (cc)
 none_holds (condition r false ∷ rest) e (suc i) h = none_holds rest e i h
 
 -- the first leads
 pub first_leads : (cs : List Condition) (r : Refusal) → first_of cs ≡ refused r → Leading cs r
 unfolding first_of
-first_leads [] r e = let z : ◌≡◌ {A = ℕ} 0 1 = cc in clash z
+first_leads [] r e = clash (cc)
 first_leads (condition s true ∷ rest) r e =
     record { line = 0; names = named e; holds = refl; above = λ i h. absurd (not-suc-le-zero h) }
   where
@@ -60,7 +60,7 @@ first_leads (condition s false ∷ rest) r e =
     record { line = suc l.line; names = l.names; holds = l.holds; above = λ i. over l i }
   where
     over : (l : Leading rest r) (i : ℕ) → i < suc l.line → holds_in (condition s false ∷ rest) i ≡ true → ⊥
-    over l zero h q = let z : ◌≡◌ {A = ℕ} 0 1 = cc in clash z
+    over l zero h q = clash (cc)
     over l (suc i) h q = l.above i (le_of_suc-le-suc h) q
 
 -- a line names one refusal

@@ -2,7 +2,6 @@
 -- Assumes nothing.
 use Rattle.std.specs.Prelude.{ℕ, zero, suc, ◌+◌, ◌*◌, ◌≤◌, ◌<◌, ◌≡◌, refl, Bool, true, false, List, [], ◌∷◌, take, drop, Result, Ok, Err}
 use Rattle.refusals.specs.declared.Refusal.{Refusal}
-use Rattle.refusals.specs.declared.SentBack.{SentBack}
 use Rattle.std.proofs.Common.{zero-le, suc-le-suc, arith, le_of_suc-le-suc, not-suc-le-zero, ◌∙◌, sym, ap, subst, drop-drop, le-ltb}
 use Rattle.search.specs.Laws.{clash}
 use Rattle.refusals.specs.declared.Refusal.TheVariants as refusal
@@ -30,7 +29,7 @@ further bytes i a h =
 pub answers_are : (n place last : ℕ) (bytes : List ℕ) (xs : List Answer) → cards_from n place last bytes ≡ answers xs → (i : ℕ) (a : Answer) → At xs i a → (i < n) × AnswerAt bytes i a
 unfolding cards_from AnswerAt
 answers_are zero place last bytes [] e i a h = absurd h
-answers_are zero place last bytes (x ∷ xs) e i a h = let z : ◌≡◌ {A = ℕ} 0 1 = cc in clash z
+answers_are zero place last bytes (x ∷ xs) e i a h = clash (cc)
 answers_are (suc n) place last bytes xs e i a h =
     go (answer_of (take 24 bytes) last) refl (λ b ys. answers_are n (suc place) b.number (drop 24 bytes) ys) e i h
   where
@@ -42,7 +41,7 @@ answers_are (suc n) place last bytes xs e i a h =
     go (Ok b) p ih q k w =
         let j = joined_is b (cards_from n (suc place) b.number (drop 24 bytes)) q in
         at_head b j.0 p (λ k' w'. ih b j.0 j.1 k' a w') k (subst (λ (ys : List Answer). At ys k a) (sym j.2) w)
-    go (Err r) p ih q k w = let z : ◌≡◌ {A = ℕ} 0 1 = cc in clash z
+    go (Err r) p ih q k w = clash (cc)
 
 -- every card has its answer
 pub cards_have : (n place last : ℕ) (bytes : List ℕ) (xs : List Answer) → cards_from n place last bytes ≡ answers xs → (i : ℕ) → i < n → (a : Answer) × At xs i a × AnswerAt bytes i a
@@ -60,7 +59,7 @@ cards_have (suc n) place last bytes xs e i h =
     go (Ok b) p ih q k w =
         let j = joined_is b (cards_from n (suc place) b.number (drop 24 bytes)) q in
         subst (λ (ys : List Answer). (a : Answer) × At ys k a × AnswerAt bytes k a) j.2 (at_head b j.0 p (ih b j.0 j.1) k w)
-    go (Err r) p ih q k w = let z : ◌≡◌ {A = ℕ} 0 1 = cc in clash z
+    go (Err r) p ih q k w = clash (cc)
 
 -- a good header: none of the checks 1 to 4 refuses, and it gives the card count
 pub record Checked (bytes : List ℕ) (room n : ℕ) : Type 0 where
@@ -81,10 +80,7 @@ checked bytes room n = go (bad_length bytes) (bad_version bytes) (bad_count byte
     go false true c d p q r s e = clash (cc)
     go false false true d p q r s e = clash (cc)
     go false false false true p q r s e = clash (cc)
-    go false false false false p q r s e = record { whole = p; version = q; cards = r; buffer = s; count = good_is e }
-      where
-        good_is : {m k : ℕ} → ◌≡◌ {A = Result ℕ Refusal} (Ok m) (Ok k) → m ≡ k
-        good_is u = cc
+    go false false false false p q r s e = record { whole = p; version = q; cards = r; buffer = s; count = cc }
 
 pub header_count : (bytes : List ℕ) (room n : ℕ) → header_of bytes room ≡ Ok n → count_of bytes ≡ n
 header_count bytes room n e = (checked bytes room n e).count
@@ -105,15 +101,12 @@ any_room bytes room other e k = any_header bytes room other (header_of bytes roo
 cards_found : (bytes : List ℕ) (n : ℕ) (c : Cards) {l : Leaders} → count_of bytes ≡ n → cards_of n bytes ≡ c → result_of c ≡ Ok l → Found bytes l
 unfolding cards_of
 cards_found bytes n (answers xs) k p e =
-    record { list = xs; cards = ap (λ y. cards_from y 0 0 (drop 7 bytes)) k ∙ p; leads = accepted_is e }
-  where
-    accepted_is : {l m : Leaders} → ◌≡◌ {A = Result Leaders (SentBack ℕ)} (Ok l) (Ok m) → l ≡ m
-    accepted_is q = cc
-cards_found bytes n (sent_back r place) k p e = let z : ◌≡◌ {A = ℕ} 0 1 = cc in clash z
+    record { list = xs; cards = ap (λ y. cards_from y 0 0 (drop 7 bytes)) k ∙ p; leads = cc }
+cards_found bytes n (sent_back r place) k p e = clash (cc)
 
 header_found : (bytes : List ℕ) (room : ℕ) (h : Result ℕ Refusal) {l : Leaders} → header_of bytes room ≡ h → after_header h bytes ≡ Ok l → Found bytes l
 header_found bytes room (Ok n) p e = cards_found bytes n (cards_of n bytes) (header_count bytes room n p) refl e
-header_found bytes room (Err r) p e = let z : ◌≡◌ {A = ℕ} 0 1 = cc in clash z
+header_found bytes room (Err r) p e = clash (cc)
 
 pub found : (bytes : List ℕ) (room : ℕ) {l : Leaders} → outcome_of bytes room ≡ Ok l → Found bytes l
 unfolding outcome_of

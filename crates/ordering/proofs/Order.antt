@@ -35,8 +35,8 @@ use Rattle.ordering.specs.Order.{kind_of, route_in, table_in, route_of, table_of
 answer_is : {a b : Answer} → ◌≡◌ {A = Result Answer Refusal} (Ok a) (Ok b) → a ≡ b
 answer_is e = cc
 
-refused_not : {r : Refusal} {a : Answer} → ◌≡◌ {A = Result Answer Refusal} (Err r) (Ok a) → ⊥
-refused_not e = let z : ◌≡◌ {A = ℕ} 0 1 = cc in clash z
+refused_not : {r : Refusal} {a : Answer} → Err r ≡ Ok a → ⊥
+refused_not e = clash (cc)
 
 -- what a toxic answer was read from
 record ToxicAnswer (card : ToxicCard) (a : Answer) : Type 0 where

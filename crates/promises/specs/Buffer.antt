@@ -24,7 +24,7 @@ unfolding cards_of
 good_filled bytes out (Ok n) f p e =
     ap (λ y. filled_with (cards_from y 0 0 (drop 7 bytes)) out) (sym (header_count bytes (length out) n p))
     ∙ ap (λ y. filled_with y out) f.cards
-good_filled bytes out (Err r) f p e = let z : ◌≡◌ {A = ℕ} 0 1 = cc in clash z
+good_filled bytes out (Err r) f p e = clash (cc)
 
 buffer_is : (bytes out : List ℕ) {l : Leaders} (e : Accepts bytes out l) → buffer_of bytes out ≡ bytes_of (found bytes (length out) e).list ++ drop (length (bytes_of (found bytes (length out) e).list)) out
 unfolding buffer_of outcome_of
@@ -74,7 +74,7 @@ buffer_beyond bytes out l e k h =
 
 -- A refused call changes no byte.
 kept_cards : (c : Cards) (out : List ℕ) {r : Refusal} {place : ℕ} → result_of c ≡ Err (refused_at r place) → filled_with c out ≡ out
-kept_cards (answers xs) out e = let z : ◌≡◌ {A = ℕ} 0 1 = cc in clash z
+kept_cards (answers xs) out e = clash (cc)
 kept_cards (sent_back r place) out e = refl
 
 kept_header : (h : Result ℕ Refusal) (bytes out : List ℕ) {r : Refusal} {place : ℕ} → after_header h bytes ≡ Err (refused_at r place) → filled_after h bytes out ≡ out
