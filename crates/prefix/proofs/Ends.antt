@@ -18,6 +18,10 @@ use Rattle.running.specs.declared.Running.{Running}
 use Rattle.running.specs.Running.{before_cards}
 use Rattle.running.proofs.Laws.{running_place}
 use Rattle.walk.specs.Walk.{nothing_of, walk_from, end_of}
+use Prim.Native.Nat.{min, ◌<◌}
+use mathlib.Core.Bool.{Bool, true, false}
+use lib.Dec.{ltb}
+use borrow.Author.Tests.{ltb-true, ltb-false}
 use Rattle.cards.specs.Register.{cards_from, cards_of}
 use Rattle.cards.proofs.Laws.{cards_count, behind_header, header_refused}
 use Rattle.cards.proofs.Walked.{Passed, passed, passed_leaders, stopped}
@@ -105,6 +109,23 @@ module _ (bytes : List ℕ) (k : ℕ) (h : Result ℕ Refusal) (e : h ≡ header
         g
         ∙ (all_cards n n 0 0 rest (cards_from n 0 0 rest) refl (omega arith)
         ∙ (sym (all_cards n k 0 0 rest (cards_from n 0 0 rest) refl l) ∙ good_is))
+
+    -- the first k cards, or all there are
+    pub fewer_cards : (m : ℕ) → m ≡ min k n → x ≡ result_after m (cards_from n 0 0 (take (length bytes - 7) (drop 7 bytes))) → x ≡ prefix_of bytes k
+    fewer_cards m least g = go (ltb k n) refl
+      where
+        after : ℕ → Result Leaders (SentBack ℕ)
+        after i = result_after i (cards_from n 0 0 (take (length bytes - 7) (drop 7 bytes)))
+
+        go : (t : Bool) → ltb k n ≡ t → x ≡ prefix_of bytes k
+        go true p =
+            let l : k < n = ltb-true k n p in
+            let z : m ≡ k = omega arith in
+            some_cards (g ∙ ap after z)
+        go false p =
+            let l : n ≤ k = ltb-false k n p in
+            let z : m ≡ n = omega arith in
+            every_card l (g ∙ ap after z)
 
 -- what equals the definition keeps the paper's words
 pub kept : (bytes : List ℕ) (k : ℕ) (x : Result Leaders (SentBack ℕ)) → x ≡ prefix_of bytes k → Keeps bytes k x

@@ -28,7 +28,7 @@ use Rattle.ordering.proofs.Ordering.{in_result}
 use Rattle.ordering.specs.Found.{Found}
 use Rattle.ordering.proofs.Found.{found, header_count, from_card, to_card}
 use Rattle.prefix.specs.Prefix.{result_after, result_behind, prefix_of}
-use Rattle.prefix.specs.Claim.{distance_in, distance_of, Among, Leader, FarthestOfFirst, Keeps}
+use Rattle.prefix.specs.Claim.{distance_in, distance_of, Among, LeaderOfFirst, FarthestOfFirst, Keeps}
 
 -- ---- the first k of a list
 
@@ -99,7 +99,7 @@ module _ (c : Class) (bytes : List ℕ) (k : ℕ) {l : Leaders} (e : outcome_of 
         far = distance_is (card_at bytes i) x.2 x.3;
       }
 
-  first_leader : (n : ℕ) (d : Miles) → farthest_of c First ≡ Some (leader n d) → Leader c bytes k n d
+  first_leader : (n : ℕ) (d : Miles) → farthest_of c First ≡ Some (leader n d) → LeaderOfFirst c bytes k n d
   first_leader n d q =
       let f = leads c First n d q in
       let p = to_place f.0 f.1 f.2.stands f.2.of_class in
@@ -121,7 +121,7 @@ module _ (c : Class) (bytes : List ℕ) (k : ℕ) {l : Leaders} (e : outcome_of 
         largest = λ i m.
             let x = to_answer i m in
             subst (Reaches (farthest_of c First)) (sym x.far) (reaches c First i x.answer x.stands x.of_class);
-        leader = first_leader;
+        leads = first_leader;
       }
 
 -- ---- the call

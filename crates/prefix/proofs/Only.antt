@@ -12,15 +12,15 @@ use Rattle.units.specs.declared.Miles.{Miles}
 use Rattle.buffer.specs.Numbers.{four_at}
 use Rattle.card.specs.declared.Class.{Class}
 use Rattle.ordering.specs.Claim.{card_at}
-use Rattle.prefix.specs.Claim.{Leader, FarthestOfFirst}
+use Rattle.prefix.specs.Claim.{LeaderOfFirst, FarthestOfFirst}
 
 module _ (c : Class) (register : List ℕ) (k : ℕ) where
   module _ (n m : ℕ) (d e : Miles) (p : FarthestOfFirst c register k (Some (leader n d))) (q : FarthestOfFirst c register k (Some (leader m e))) where
-    one : Leader c register k n d
-    one = p.leader n d refl
+    one : LeaderOfFirst c register k n d
+    one = p.leads n d refl
 
-    other : Leader c register k m e
-    other = q.leader m e refl
+    other : LeaderOfFirst c register k m e
+    other = q.leads m e refl
 
     -- each is as far as the other
     same_miles : d.0 ≡ e.0
@@ -43,10 +43,12 @@ module _ (c : Class) (register : List ℕ) (k : ℕ) where
     same_card : Some (leader n d) ≡ Some (leader m e)
     unfolding one other
     same_card =
-        ap₂ Some (leader (sym one.numbered ∙ (ap (λ i. four_at (card_at register i) 20) same_place ∙ other.numbered)) (ap (λ i. record { 0 = i }) same_miles))
+        ap₂ (λ i (far : Miles). Some (leader i far))
+        (sym one.numbered ∙ (ap (λ i. four_at (card_at register i) 20) same_place ∙ other.numbered))
+        (ap (λ i. record { 0 = i }) same_miles)
 
   pub only_one : (f g : Option Leader) → FarthestOfFirst c register k f → FarthestOfFirst c register k g → f ≡ g
   only_one None None p q = refl
-  only_one None (Some lead) p q = let l = q.leader lead.number lead.distance refl in absurd (p.none.0 refl l.place l.among)
-  only_one (Some lead) None p q = let l = p.leader lead.number lead.distance refl in absurd (q.none.0 refl l.place l.among)
+  only_one None (Some lead) p q = let l = q.leads lead.number lead.distance refl in absurd (p.none.0 refl l.place l.among)
+  only_one (Some lead) None p q = let l = p.leads lead.number lead.distance refl in absurd (q.none.0 refl l.place l.among)
   only_one (Some lead) (Some other) p q = same_card lead.number other.number lead.distance other.distance p q

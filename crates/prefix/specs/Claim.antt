@@ -34,7 +34,7 @@ pub record Among (c : Class) (register : List ℕ) (k i : ℕ) : Type 0 where
   pub kind : byte_at (card_at register i) 0 ≡ kind_of c
 
 -- one of them has this number and this distance, and "the earlier on a tie": those of the class before it are nearer
-pub record Leader (c : Class) (register : List ℕ) (k n : ℕ) (d : Miles) : Type 0 where
+pub record LeaderOfFirst (c : Class) (register : List ℕ) (k n : ℕ) (d : Miles) : Type 0 where
   pub place : ℕ
   pub among : Among c register k place
   pub numbered : four_at (card_at register place) 20 ≡ n
@@ -48,7 +48,7 @@ pub record FarthestOfFirst (c : Class) (register : List ℕ) (k : ℕ) (f : Opti
   -- no card of the class among the k is farther
   pub largest : (i : ℕ) → Among c register k i → Reaches f (distance_of (card_at register i))
   -- and it is one of them, the earliest that is so far
-  pub leader : (n : ℕ) (d : Miles) → f ≡ Some (leader n d) → Leader c register k n d
+  pub leads : (n : ℕ) (d : Miles) → f ≡ Some (leader n d) → LeaderOfFirst c register k n d
 
 -- "after the first k cards of an accepted register, for every k, they are 01's farthest of those k, or none": k counts no more than the
 -- register's cards (`there`), so that beyond the count it is the farthest of them all. A register that is sent back gives its own

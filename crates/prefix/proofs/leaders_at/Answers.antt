@@ -1,17 +1,23 @@
 -- `prefix::leaders_at` meets its contract: the walk in two parts comes to the walk through all cards.
 -- Assumes nothing.
+use Prim.Native.Nat.{◌≤◌}
 use Rattle.prefix.proofs.Ends.{first_stopped, first_place, rest_stopped, all_passed}
 use borrow.Author.Rules.{rules}
 use Rattle.prefix.proofs.leaders_at.Goals as goal
 
-pub returns-in_default : goal.returns-in_default
-returns-in_default c = search (first_stopped, rules)
+pub returns-in_err-running : goal.returns-in_err-running
+returns-in_err-running c = let q = c.in_err-running.was {u = tt} in search (first_stopped, q, rules)
 
-pub along-ended-requires : goal.along-ended-requires
-along-ended-requires c = search (first_place, rules)
+pub along-requires : goal.along-requires
+along-requires c = let q = c.in_ok-running.was {u = tt} in search (first_place, q, rules)
 
-pub returns-in_default-ended : goal.returns-in_default-ended
-returns-in_default-ended c = search (rest_stopped, rules)
+pub returns-in_err-along : goal.returns-in_err-along
+returns-in_err-along c =
+    let few : c.args.first ≤ c.args.count = search rules in
+    let told = rest_stopped _ _ _ few _ c.through.ensures.value _ _ (c.in_ok-running.was {u = tt}) _ c.along.ensures.value _ (c.in_err-along.was {u = tt}) in
+    search (told, rules)
 
 pub returns : goal.returns
-returns c = search (all_passed, rules)
+returns c =
+    let few : c.args.first ≤ c.args.count = search rules in
+    all_passed _ _ _ few _ c.through.ensures.value _ _ (c.in_ok-running.was {u = tt}) _ c.along.ensures.value c.in_ok-along.field-0.0 c.in_ok-along.field-0.1 (c.in_ok-along.was {u = tt})
