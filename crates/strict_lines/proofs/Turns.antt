@@ -1,4 +1,4 @@
--- The line of a card, and the start, one turn and the end of each walk over the cards: what is counted, or written, is the
+-- The line of a card, and the start and one turn of each walk over the cards: what is counted, or written, is the
 -- lines of the cards passed.
 -- Assumes nothing.
 use Prim.Native.Nat.{ℕ, ◌+◌, ◌-◌, ◌*◌, ◌≤◌, ◌<◌}
@@ -7,7 +7,6 @@ use native.Mathlib.Nat.{add-sub_cancel_left}
 use mathlib.Core.Path.{◌≡◌, ◌∙◌, refl, ap, subst}
 use mathlib.Core.List.{List, [], ◌∷◌, ◌++◌}
 use lib.ListN.{length, take, drop, length-append}
-use lib.Seq.{sets}
 use Rattle.buffer.specs.Wrote.{Wrote}
 use Rattle.buffer.proofs.Laws.{joined, written_whole}
 use Rattle.fields.specs.declared.Fields.{Fields}
@@ -42,10 +41,6 @@ module _ (cards line after : List ℕ) (place size : ℕ) (w : Wrote line after 
     line_is : take size after ≡ line_at cards place
     line_is = (written_whole w (omega arith)).0
 
-    -- the part that is copied has its length
-    pub line_part : size ≡ length (take size after)
-    line_part = rw line_is (omega (arith, w.place))
-
     module _ (before out : List ℕ) (at : ℕ) (so_far : Wrote before out 0 at (lines_to place cards)) where
       -- it has room where the whole text has
       pub line_fits : (count : ℕ) → place < count → length (lines_to count cards) ≤ length before → length out ≡ length before → at + length (take size after) ≤ length out
@@ -58,14 +53,3 @@ module _ (cards line after : List ℕ) (place size : ℕ) (w : Wrote line after 
       pub put_turn : (written : List ℕ) (next : ℕ) → Wrote out written at next (take size after) → Wrote before written 0 next (lines_to (place + 1) cards)
       put_turn written next copied =
           rw (lines_more place cards) (joined so_far (subst (Wrote out written at next) line_is copied))
-
--- every card is passed
-module _ (cards : List ℕ) (place count : ℕ) (within : place ≤ count) (passed : count ≤ place) where
-  all : lines_to place cards ≡ lines_to count cards
-  all = let same : place ≡ count = omega arith in ap (λ n. lines_to n cards) same
-
-  pub size_end : (size : ℕ) → size ≡ length (lines_to place cards) → size ≡ length (lines_to count cards)
-  size_end size e = e ∙ ap length all
-
-  pub put_end : (before out : List ℕ) (at : ℕ) → Wrote before out 0 at (lines_to place cards) → out ≡ sets before 0 (lines_to count cards)
-  put_end before out at w = w.bytes ∙ ap (sets before 0) all

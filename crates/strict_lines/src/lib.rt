@@ -13,8 +13,7 @@ fn line_at(cards: &[u8], place: usize, line: &mut [u8]) -> usize
     ensures upper_bound { result ≤ 256 }
 {
     let start = 24 * place;
-    let end = start + 24;
-    let fields = fields::fields_of(&cards[start..end]);
+    let fields = fields::fields_of(&cards[start..start + 24]);
     strict_line::put_line(line, 0, fields)
 }
 
@@ -24,10 +23,8 @@ pub fn text_size(cards: &[u8], count: usize, line: &mut [u8]) -> usize
     ensures { result ≡ length (lines_to count cards.now) }
 {
     let mut size = 0usize;
-    let mut place = 0usize;
-    while place < count {
+    for place in 0..count {
         size += line_at(cards, place, line);
-        place += 1;
     }
     size
 }
@@ -38,10 +35,8 @@ pub fn put_lines(cards: &[u8], count: usize, line: &mut [u8], out: &mut [u8])
     ensures { out.new ≡ sets out.old 0 (lines_to count cards.now) }
 {
     let mut at = 0usize;
-    let mut place = 0usize;
-    while place < count {
+    for place in 0..count {
         let size = line_at(cards, place, line);
         at = buffer::put_text(out, at, &line[..size]);
-        place += 1;
     }
 }

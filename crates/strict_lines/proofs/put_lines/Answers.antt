@@ -1,19 +1,12 @@
-use Prim.Native.Nat.{◌-◌}
-use Rattle.strict_lines.proofs.Turns.{put_start, line_part, line_fits, put_turn, put_end}
+use Rattle.strict_lines.proofs.Turns.{put_start, line_fits, put_turn}
 use borrow.Author.Rules.{rules}
 use Rattle.strict_lines.proofs.put_lines.Goals as goal
 
 pub loop-place-init : goal.loop-place-init
 loop-place-init c = search (put_start, rules)
 
-pub slice_bounds-put_text-end-in-loop-place : goal.slice_bounds-put_text-end-in-loop-place
-slice_bounds-put_text-end-in-loop-place c = search (line_part, rules)
-
 pub put_text-at-requires : goal.put_text-at-requires
 put_text-at-requires c = search (line_fits, rules)
 
 pub loop-place-preserved : goal.loop-place-preserved
 loop-place-preserved c = search (put_turn, rules)
-
-pub returns : goal.returns
-returns c = search (put_end, rules)

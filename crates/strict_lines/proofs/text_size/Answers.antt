@@ -1,5 +1,4 @@
-use Prim.Native.Nat.{◌-◌}
-use Rattle.strict_lines.proofs.Turns.{size_start, size_turn, size_end}
+use Rattle.strict_lines.proofs.Turns.{size_start, size_turn}
 use borrow.Author.Rules.{rules}
 use Rattle.strict_lines.proofs.text_size.Goals as goal
 
@@ -8,6 +7,3 @@ loop-place-init c = search (size_start, rules)
 
 pub loop-place-preserved : goal.loop-place-preserved
 loop-place-preserved c = search (size_turn, rules)
-
-pub returns : goal.returns
-returns c = search (size_end, rules)
