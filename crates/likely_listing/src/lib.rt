@@ -16,6 +16,7 @@ use refusals::Refusal;
 const LONGEST: usize = 1_000;
 
 // The 24 bytes of a card.
+#[tactic(auto, unfolding(comma::specs::Text::card_bytes, buffer::specs::Numbers::two_bytes, buffer::specs::Numbers::four_bytes))]
 fn card_of(card: Fields) -> [u8; 24]
     ensures { result ≡ card_bytes card }
 {
@@ -42,22 +43,16 @@ fn put_question(out: &mut [u8], question: Option<Question>) -> usize
     ensures wrote { Wrote out.old out.new 0 result (question_line question) }
     ensures upper_bound { result ≤ 128 }
 {
-    let Some(
-        Question {
-            rate,
-            minutes,
-            card,
-        },
-    ) = question
-    else {
+    let Some(asked) = question else {
         return closing::put_refused(out, 0, refusals::number(Refusal::Line), 1);
     };
-    let bytes = card_of(card);
-    let answer = likely_scenario::likely_of(&bytes, rate as u64, minutes);
+    let card = card_of(asked.card);
+    let answer = likely_scenario::likely_of(&card, asked.rate as u64, asked.minutes);
     put_answer(out, answer)
 }
 
 // The listing of any text, at the start of a lent buffer; behind it the buffer stays as it was.
+#[tactic(auto, unfolding(crate::specs::LikelyListing::likely_listing))]
 pub fn list(text: &[u8], out: &mut [u8; 128]) -> usize
     ensures wrote { Wrote out.old out.new 0 result (likely_listing text.now) }
     ensures upper_bound { result ≤ length out.new }
