@@ -13,11 +13,10 @@ pub fn read_all(reader: &mut impl Read, buffer: &mut [u8]) -> io::Result<usize>
 {
     let mut done = 0usize;
     while done < buffer.len() {
-        let more = reader.read(&mut buffer[done..])?;
-        if more == 0 {
-            return Ok(done);
+        match reader.read(&mut buffer[done..])? {
+            0 => break,
+            more => done += more,
         }
-        done += more;
     }
     Ok(done)
 }
