@@ -10,6 +10,7 @@ ghost use Rattle.write_lines.specs.Accepted.{accepted};
 use refusals::{Refusal, SentBack};
 
 // The text of an accepted register's cards, or 13.
+#[tactic(auto, using(buffer::proofs::Laws::written_first))]
 fn write_cards(cards: &[u8], count: usize, out: &mut [u8]) -> Result<usize, SentBack<usize>>
     requires { (count ≤ 2000) × (24 * count ≤ length cards.now) }
     ensures value { result ≡ answer_as accepted (lines_to count cards.now) (length out.old) }
@@ -29,6 +30,7 @@ fn write_cards(cards: &[u8], count: usize, out: &mut [u8]) -> Result<usize, Sent
 
 // Writes a register as comma lines. A register that is sent back and too short a buffer leave every byte as it was, and so do
 // the bytes behind the text always.
+#[tactic(auto, using(crate::proofs::Ends::accepted_header, crate::proofs::Ends::accepted_count, crate::proofs::Ends::accepted_cards, crate::proofs::Ends::text_is), unfolding(crate::specs::Writing::writing_of, crate::specs::Writing::write_into))]
 pub fn write(register: &[u8], out: &mut [u8]) -> Result<usize, SentBack<usize>>
     ensures value { result ≡ writing_of register.now (length out.old) }
     ensures out_after { out.new ≡ write_into register.now out.old }
