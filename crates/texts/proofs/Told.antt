@@ -61,7 +61,7 @@ room_enough : (count room : ℕ) → count ≤ 2_000 → size_of count ≤ room 
 unfolding bad_room
 room_enough count room few h = rw (le-ltb 2_000 count few, le-ltb room (size_of count) h)
 
-pub bytes_are : {m n : ℕ} → Ok m ≡ Ok n → m ≡ n
+pub bytes_are : {m n : ℕ} → ◌≡◌ {A = Result ℕ (SentBack ℕ)} (Ok m) (Ok n) → m ≡ n
 bytes_are e = cc
 
 -- by what the text comes to
