@@ -587,7 +587,7 @@ def rate_vectors(lines):
 # ---- Writing the code's arrays and functions ----
 
 # The layout is that of `rt fmt`: an array of more than so many characters is filled over lines of at most so many, the comma
-# behind the last number not counted.
+# behind the last number not counted unless the array is a field.
 LINE_WIDTH = 99
 ARRAY_WIDTH = 60
 
@@ -602,7 +602,7 @@ def rt_file(sources, parts, ghosts=(), uses=()):
     return "\n".join(lines) + "\n"
 
 
-def rt_numbers(numbers, indent=0):
+def rt_numbers(numbers, indent=0, field=False):
     """An array's text from its bracket on, where its first line is indented so far."""
     texts = [str(number) for number in numbers]
     flat_text = f"[{', '.join(texts)}]"
@@ -612,7 +612,7 @@ def rt_numbers(numbers, indent=0):
     lines = [margin + texts[0]]
     for place, text in enumerate(texts[1:], start=2):
         longer = f"{lines[-1]}, {text}"
-        if len(longer) + (place < len(texts)) <= LINE_WIDTH:
+        if len(longer) + (field or place < len(texts)) <= LINE_WIDTH:
             lines[-1] = longer
         else:
             lines[-1] += ","
@@ -634,6 +634,14 @@ def rt_record(name, fields, indent):
     """A struct's text, a field a line, where its first line is indented so far."""
     margin = " " * indent
     return "\n".join([f"{name} {{", *(f"{margin}    {field}: {number}," for field, number in fields.items()), margin + "}"])
+
+
+def rt_constant(comment, name, kind, struct, arrays):
+    """A constant of a struct whose fields are arrays, each the pair of its entries' width and of its numbers."""
+    for field, (width, numbers) in arrays.items():
+        expect(all(0 <= number < 2**width for number in numbers), f"{name}.{field}", f"a number does not fit {width} bits")
+    record = rt_record(struct, {field: rt_numbers(numbers, 4, field=True) for field, (_, numbers) in arrays.items()}, 0)
+    return [f"// {comment}", f"pub const {name}: {kind} = {record};"]
 
 
 # How far the arms of an `rt_match` are indented.
@@ -673,15 +681,6 @@ def arms_proof(crate, function, imports, unfolding, meaning, keys, last):
     arms = [(f"returns-in-{key}", f"arm {meaning} _ {key} c.in-{key}.is refl") for key in keys]
     return answers_proof(crate, "tables", function, "each arm is what is\n-- printed at its key. Assumes nothing.", imports,
                          unfolding, arms + [(DEFAULT_GOAL, last)])
-
-
-def rate_arrays(what, upto, last, rates):
-    """The cut points of a table's rows and the rate of its last row, under two names."""
-    return [
-        rt_array(f"{what}: the largest rate that reads each row but the last, in thousandths of a pound per minute.", upto, 64,
-                 rate_cuts(rates)),
-        rt_number(f"{what}: the rate of the last row, in thousandths of a pound per minute.", last, 64, 1000 * rates[-1]),
-    ]
 
 
 def rt_cell(cell):
@@ -789,17 +788,15 @@ def solution_proof(solutions):
         answers + [(DEFAULT_GOAL, f"no_line _ _ ({antt_list(groups)}) refl {DEFAULT_KNOWN}")])
 
 
-def neutral_arrays(tables):
-    arrays = []
+def neutral_constants(tables):
+    constants = []
     for number, table in tables.items():
         marks = [mark for _, _, mark in table["closed"]] + [table["above"][1]]
-        arrays += [
-            rt_array(f"Table {number}: the upper bounds of the closed ranges, in tenths.", f"BOUND_{number}", 32,
-                     [upper for _, upper, _ in table["closed"]]),
-            rt_array(f"Table {number}: the entries in use in hundredths of a mile, the last for the open range.",
-                     f"RANGE_{number}", 16, column_in_use(marks)),
-        ]
-    return rt_file(sources_of(tables), arrays)
+        constants.append(rt_constant(
+            f"Table {number}: the upper bounds of the closed ranges, and the entries in use, the last for the open range.",
+            f"TABLE_{number}", "Ranges", "Ranges",
+            {"bounds": (32, [upper for _, upper, _ in table["closed"]]), "entries": (16, column_in_use(marks))}))
+    return rt_file(sources_of(tables), constants, uses=["use rules::Ranges;"])
 
 
 def alike(tables):
@@ -821,7 +818,10 @@ def dense_rows(tables):
     arms = [(f"Table {DENSE_TABLES[place // DENSE_ROW_COUNT]}" if place % DENSE_ROW_COUNT == 0 else None, place, rt_numbers(row, ARM_INDENT))
             for place, row in enumerate(rows)]
     return rt_file(sources_of(tables), [
-        *rate_arrays("Tables 5 to 8", "ROW_UPTO", "LAST_ROW", first["rates"]),
+        rt_array("Tables 5 to 8: the largest rate that reads each row but the last, in thousandths of a pound per minute.", "ROW_UPTO", 64,
+                 rate_cuts(first["rates"])),
+        rt_number("Tables 5 to 8: the rate of the last row, in thousandths of a pound per minute.", "LAST_ROW", 64,
+                  1000 * first["rates"][-1]),
         column_cuts("Tables 5 to 8", first),
         rt_match(f"Tables 5 to 8: the entries in use in hundredths of a mile, {DENSE_ROW_COUNT} rows a table.",
                  f"row_of(row: usize) -> [u16; {DENSE_COLUMN_COUNT}]", "result ≡ get_or dense_rows row no_row", "row", arms,
@@ -841,26 +841,21 @@ def dense_proof():
         f"sym (get_or_past dense_rows _ no_row (beyond _ {count} {DEFAULT_KNOWN}))")
 
 
-def both_columns(number, table):
-    return [
-        rt_array(f"Table {number}: the rural entries in use in hundredths of a mile.", f"RURAL_{number}", 16,
-                 column_in_use([rural for _, rural, _ in table])),
-        rt_array(f"Table {number}: the urban entries in use in hundredths of a mile.", f"URBAN_{number}", 16,
-                 column_in_use([urban for _, _, urban in table])),
-    ]
+def lines_constant(number, table, what, field, rates):
+    """A table of rates down and two columns across; the field of the name holds the rates that find its rows."""
+    return rt_constant(
+        f"Table {number}: {what}, and the entries in use.", f"TABLE_{number}", f"Lines<{len(table)}>", "Lines",
+        {field: (64, rates), "rural": (16, column_in_use([rural for _, rural, _ in table])),
+         "urban": (16, column_in_use([urban for _, _, urban in table]))})
 
 
-def chemical_arrays(tables):
-    arrays = []
+def chemical_constants(tables):
+    constants = []
     for number, table in tables.items():
-        arrays += [*rate_arrays(f"Table {number}", f"UPTO_{number}", f"LAST_{number}", [rate for rate, _, _ in table]),
-                   *both_columns(number, table)]
-    return rt_file(sources_of(tables), arrays)
-
-
-def row_rates(what, name, rates):
-    return rt_array(f"{what}: the rates of the rows, in thousandths of a pound per minute.", name, 64,
-                    [1000 * rate for rate in rates])
+        rates = [rate for rate, _, _ in table]
+        constants.append(lines_constant(number, table, "the largest rate that reads each row, the last row's its own", "upto",
+                                        rate_cuts(rates) + [1000 * rates[-1]]))
+    return rt_file(sources_of(tables), constants, uses=["use crate::Lines;"])
 
 
 def likely_dense_columns(tables):
@@ -869,19 +864,18 @@ def likely_dense_columns(tables):
     for table in tables.values():
         columns += zip(*entries_in_use([[distance_read(mark) for mark in row] for row in table["marks"]]))
     return rt_file(sources_of(tables), [
-        row_rates("Tables 18 to 21", "RATE", first["rates"]),
+        rt_array("Tables 18 to 21: the rates of the rows, in thousandths of a pound per minute.", "RATE", 64,
+                 [1000 * rate for rate in first["rates"]]),
         column_cuts("Tables 18 to 21", first),
         rt_array(f"Tables 18 to 21: the entries in use in hundredths of a mile, {DENSE_COLUMN_COUNT} columns a table, "
                  f"{DENSE_ROW_COUNT} rows a column.", "COLUMNS", 16, flat(columns)),
     ])
 
 
-def likely_chemical_arrays(tables):
-    arrays = []
-    for number, table in tables.items():
-        arrays += [row_rates(f"Table {number}", f"RATE_{number}", [rate for rate, _, _ in table]),
-                   *both_columns(number, table)]
-    return rt_file(sources_of(tables), arrays)
+def likely_chemical_constants(tables):
+    constants = [lines_constant(number, table, "the rates of the rows", "rates", [1000 * rate for rate, _, _ in table])
+                 for number, table in tables.items()]
+    return rt_file(sources_of(tables), constants, uses=["use crate::Lines;"])
 
 
 def heat_lines(flammables):
@@ -925,18 +919,18 @@ def generated_files():
         "crates/solutions/src/tables.rt": solution_lines(solutions),
         "crates/solutions/proofs/tables/line_of/Answers.antt": solution_proof(solutions),
         "crates/neutral/specs/PrintedNeutral.antt": printed_neutral(neutral),
-        "crates/neutral/src/tables.rt": neutral_arrays(neutral),
+        "crates/neutral/src/tables.rt": neutral_constants(neutral),
         "crates/dense/specs/PrintedDense.antt": printed_dense(dense),
         "crates/dense/src/tables.rt": dense_rows(dense),
         "crates/dense/proofs/tables/row_of/Answers.antt": dense_proof(),
         "crates/dispersion/specs/PrintedChemical.antt": printed_chemical(chemical),
-        "crates/dispersion/src/tables.rt": chemical_arrays(chemical),
+        "crates/dispersion/src/tables.rt": chemical_constants(chemical),
         "crates/likely_neutral/specs/PrintedNeutral.antt": printed_neutral(likely_neutral),
-        "crates/likely_neutral/src/tables.rt": neutral_arrays(likely_neutral),
+        "crates/likely_neutral/src/tables.rt": neutral_constants(likely_neutral),
         "crates/likely_dense/specs/PrintedDense.antt": printed_dense(likely_dense),
         "crates/likely_dense/src/tables.rt": likely_dense_columns(likely_dense),
         "crates/likely_tables/specs/PrintedChemical.antt": printed_chemical(likely_chemical),
-        "crates/likely_tables/src/tables.rt": likely_chemical_arrays(likely_chemical),
+        "crates/likely_tables/src/tables.rt": likely_chemical_constants(likely_chemical),
         "crates/combustion/specs/PrintedC1.antt": printed_c1(flammables),
         "crates/combustion/src/tables.rt": heat_lines(flammables),
         "crates/combustion/proofs/tables/heat_of/Answers.antt": heat_proof(flammables),

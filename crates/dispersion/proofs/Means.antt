@@ -1,42 +1,78 @@
 -- A reading of the code's arrays is the reading of the printed table, for Tables 9 to 12: over any arrays that hold what is
 -- computed from it. At a table each of the equations is closed by computation. And a dense table's reading is its number's.
 -- Assumes nothing.
-use Prim.Native.Nat.{ℕ, zero, suc, ◌+◌, ◌-◌, ◌≤◌, ◌<◌}
+use Prim.Native.Nat.{ℕ, zero, suc, ◌+◌, ◌-◌, ◌≤◌, ◌<◌, min}
+use Rattle.std.proofs.Common.{⊎_elim, get_or-append-add}
+use Rattle.std.proofs.Math.ListN.{length-append}
 use native.Mathlib.Nat.{le_of_suc-le-suc, not-suc-le-zero}
 use native.Mathlib.Omega.{arith}
 use mathlib.Core.Path.{◌≡◌, refl, ap, ◌∙◌}
-use mathlib.Core.List.{List, [], map}
+use mathlib.Core.List.{List, [], ◌∷◌, ◌++◌, map}
 use mathlib.Core.Bool.{true}
-use lib.Dec.{ltb}
 use lib.ListN.{length, get_or, length-map}
 use Rattle.search.specs.Rising.{first_at_least}
+use Rattle.search.specs.Laws.{lt_or_ge, first_within, first_on, first_here}
 use Rattle.rules.specs.Printed.{Line}
-use Rattle.rules.specs.Rules.{from_column, larger, thousandths, closest_column, last_of, answered, by_row}
+use Rattle.rules.specs.Rules.{largest, in_use, from_column, larger, thousandths, closest_column, last_of, answered, by_row, past, by_range}
 use Rattle.rules.specs.Cuts.{cuts, climbs}
 use Rattle.rules.specs.Carried.{running}
 use Rattle.rules.proofs.Means.{row_means}
+use Rattle.neutral.specs.Numbered.{numbered}
 use Rattle.dense.specs.PrintedDense.{rates5, endpoints5}
 use Rattle.dense.specs.Grids.{dense_tables}
 use Rattle.dispersion.specs.declared.Ground.{Ground}
 use Rattle.dispersion.specs.declared.Ground.TheVariants.{Rural, Urban}
+use Rattle.dispersion.specs.Rows.{row_read}
 use Rattle.dispersion.specs.Tables.{lines, column_of, read_in, rate_of, entry_of, tables, reading_of}
 
--- Tables 9 to 12: the cut points, the last row's rate, the entries in use of both columns
-pub lines_means : (table : List Line) (points : List ℕ) (last : ℕ) (rural urban : List ℕ)
-    → points ≡ cuts larger (thousandths (map rate_of table)) → last ≡ last_of (thousandths (map rate_of table))
+-- the last of some numbers and one more
+last_behind : (xs : List ℕ) (last : ℕ) → last_of (xs ++ last ∷ []) ≡ last
+unfolding last_of
+last_behind xs last =
+    let n : length (xs ++ last ∷ []) - 1 ≡ length xs + 0 = omega (arith, length-append xs (last ∷ [])) in
+    ap (λ i. get_or (xs ++ last ∷ []) i 0) n ∙ get_or-append-add xs (last ∷ []) 0 0
+
+-- a number that none of the first reaches is read at the last, whether or not that one reaches it
+place_before : (x : ℕ) (xs : List ℕ) (last : ℕ) → min (first_at_least x (xs ++ last ∷ [])) (length xs) ≡ first_at_least x xs
+place_before x [] last = omega (arith, first_within x [])
+place_before x (a ∷ rest) last =
+    ⊎_elim
+    (λ (l : a < x). rw (first_on x a (rest ++ last ∷ []) l, first_on x a rest l) (omega (arith, place_before x rest last)))
+    (λ (l : x ≤ a). rw (first_here x a (rest ++ last ∷ []) l, first_here x a rest l) (omega arith))
+    (lt_or_ge a x)
+
+-- Tables 9 to 12: the cut points with the last row's rate behind them, and the entries in use of both columns
+pub lines_means : (table : List Line) {upto rural urban : List ℕ}
+    → upto ≡ cuts larger (thousandths (map rate_of table)) ++ last_of (thousandths (map rate_of table)) ∷ []
     → rural ≡ running 0 (map (entry_of Rural) table) → urban ≡ running 0 (map (entry_of Urban) table)
-    → climbs (thousandths (map rate_of table)) ≡ true → length table ≡ suc (length points)
+    → climbs (thousandths (map rate_of table)) ≡ true → length table ≡ suc (length (cuts larger (thousandths (map rate_of table))))
     → (topography : Ground) (rate endpoint : ℕ)
-    → answered (ltb last rate) (get_or (column_of topography rural urban) (first_at_least rate points) 0) ≡ read_in (lines table) topography rate endpoint
-unfolding read_in
-lines_means table points last rural urban p l r u c n topography rate endpoint =
-    row_means (map rate_of table) (map (entry_of topography) table) points last (column_of topography rural urban) p l (column topography) c
+    → row_read upto (column_of topography rural urban) rate ≡ read_in (lines table) topography rate endpoint
+unfolding read_in row_read
+lines_means table {upto} {rural} {urban} p r u c n topography rate endpoint =
+    let points : List ℕ = cuts larger (thousandths (map rate_of table)) in
+    let last : ℕ = last_of (thousandths (map rate_of table)) in
+    let place : min (first_at_least rate (points ++ last ∷ [])) (length (points ++ last ∷ []) - 1) ≡ first_at_least rate points =
+    omega (arith, place_before rate points last, length-append points (last ∷ [])) in
+    rw (p, last_behind points last, place)
+    (row_means (map rate_of table) (map (entry_of topography) table) points last (column_of topography rural urban) refl refl (column topography) c
     (length-map table (entry_of topography) ∙ n)
-    rate
+    rate)
   where
     column : (g : Ground) → column_of g rural urban ≡ running 0 (map (entry_of g) table)
     column Rural = r
     column Urban = u
+
+-- Tables 1 to 4, each for one ground, whichever the card's is; no table has the number 0
+pub neutral_reading : (table : ℕ) → table ≤ 4 → (topography : Ground) (rate endpoint : ℕ)
+    → by_range (numbered table) rate endpoint ≡ reading_of table topography rate endpoint
+unfolding reading_of read_in tables numbered by_range past answered in_use largest
+neutral_reading zero h topography rate endpoint = refl
+neutral_reading (suc zero) h topography rate endpoint = refl
+neutral_reading (suc (suc zero)) h topography rate endpoint = refl
+neutral_reading (suc (suc (suc zero))) h topography rate endpoint = refl
+neutral_reading (suc (suc (suc (suc zero)))) h topography rate endpoint = refl
+neutral_reading (suc (suc (suc (suc (suc n))))) h topography rate endpoint = absurd (omega arith)
 
 -- Table 5 + k is read by the rows and columns of Table 5
 dense_table : (k : ℕ) → k < 4 → (topography : Ground) (rate endpoint : ℕ)

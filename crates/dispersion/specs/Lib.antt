@@ -1,2 +1,3 @@
 pub mod PrintedChemical
 pub mod Tables
+pub mod Rows

@@ -1,1 +1,2 @@
 pub mod PrintedNeutral
+pub mod Numbered

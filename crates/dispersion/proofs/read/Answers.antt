@@ -1,18 +1,36 @@
--- `dispersion::read` meets its contract: each form of table says what it reads on whichever ground, or at whichever endpoint.
--- Assumes nothing.
-use mathlib.Core.Path.{◌∙◌}
-use Rattle.dispersion.proofs.Means.{dense_reading}
+-- `dispersion::read` meets its contract: the constants are what is computed from the printed tables. Assumes nothing.
+use mathlib.Core.Path.{refl, sym, ◌∙◌}
+use native.Mathlib.Omega.{arith}
+use Rattle.rules.specs.Rules.{distance, larger, thousandths, last_of}
+use Rattle.rules.specs.Cuts.{cuts, cuts_from, climbs, climbs_from}
+use Rattle.rules.specs.Carried.{running}
+use Rattle.dispersion.specs.PrintedChemical.{table9, table10, table11, table12}
+use Rattle.dispersion.specs.Tables.{tables, reading_of}
+use Rattle.dispersion.proofs.Laws.{reading_none}
+use Rattle.dispersion.proofs.Means.{lines_means, neutral_reading, dense_reading}
 use Rattle.dispersion.proofs.read.Goals as goal
 
-pub returns-then-table-le4 : goal.returns-then-table-le4
-returns-then-table-le4 c = c.neutral.ensures c.args.topography
+pub returns-in-9 : goal.returns-in-9
+unfolding reading_of tables running distance cuts cuts_from climbs climbs_from thousandths last_of larger
+returns-in-9 c = rw c.in-9.is (c.read.ensures ∙ lines_means table9 refl refl refl refl refl _ _ c.args.endpoint)
 
-pub returns-then-table-le8 : goal.returns-then-table-le8
-returns-then-table-le8 c = let a = c.args in
-    c.read.ensures ∙ dense_reading a.table c.if-table-le4.false c.if-table-le8.true a.topography _ _
+pub returns-in-10 : goal.returns-in-10
+unfolding reading_of tables running distance cuts cuts_from climbs climbs_from thousandths last_of larger
+returns-in-10 c = rw c.in-10.is (c.read-in-10.ensures ∙ lines_means table10 refl refl refl refl refl _ _ c.args.endpoint)
 
-pub returns-then-table-le10 : goal.returns-then-table-le10
-returns-then-table-le10 c = c.ammonia.ensures c.args.endpoint
+pub returns-in-11 : goal.returns-in-11
+unfolding reading_of tables running distance cuts cuts_from climbs climbs_from thousandths last_of larger
+returns-in-11 c = rw c.in-11.is (c.read-in-11.ensures ∙ lines_means table11 refl refl refl refl refl _ _ c.args.endpoint)
 
-pub returns : goal.returns
-returns c = c.chlorine_sulfur.ensures c.args.endpoint
+pub returns-in-12 : goal.returns-in-12
+unfolding reading_of tables running distance cuts cuts_from climbs climbs_from thousandths last_of larger
+returns-in-12 c = rw c.in-12.is (c.read-in-12.ensures ∙ lines_means table12 refl refl refl refl refl _ _ c.args.endpoint)
+
+pub returns-in-0-to-4 : goal.returns-in-0-to-4
+returns-in-0-to-4 c = c.read-in-0-to-4.ensures ∙ neutral_reading c.args.table (omega arith) _ _ _
+
+pub returns-in-5-to-8 : goal.returns-in-5-to-8
+returns-in-5-to-8 c = c.read-in-5-to-8.ensures ∙ dense_reading c.args.table (omega arith) (omega arith) _ _ _
+
+pub returns-in_default : goal.returns-in_default
+returns-in_default c = sym (reading_none _ _ _ _ (omega arith))
