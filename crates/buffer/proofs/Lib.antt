@@ -1,3 +1,2 @@
-mod Ends
-mod Turns
 pub mod Laws
+mod Ends

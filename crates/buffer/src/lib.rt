@@ -11,7 +11,7 @@ ghost use Rattle.buffer.specs.Wrote.{Wrote};
 pub fn byte(bytes: &[u8], at: usize) -> u8
     ensures { result ≡ byte_at bytes.now at }
 {
-    if at < bytes.len() { bytes[at] } else { 0 }
+    bytes.get(at).copied().unwrap_or(0)
 }
 
 // Two bytes, big-endian.
@@ -19,9 +19,7 @@ pub fn two(bytes: &[u8], at: usize) -> u16
     requires { at ≤ 1_000_000 }
     ensures { result ≡ two_at bytes.now at }
 {
-    let high = byte(bytes, at);
-    let low = byte(bytes, at + 1);
-    (high as u16) * 256 + (low as u16)
+    u16::from_be_bytes([byte(bytes, at), byte(bytes, at + 1)])
 }
 
 // Four bytes, big-endian.
@@ -29,9 +27,12 @@ pub fn four(bytes: &[u8], at: usize) -> u32
     requires { at ≤ 999_998 }
     ensures { result ≡ four_at bytes.now at }
 {
-    let high = two(bytes, at);
-    let low = two(bytes, at + 2);
-    (high as u32) * 65_536 + (low as u32)
+    u32::from_be_bytes([
+        byte(bytes, at),
+        byte(bytes, at + 1),
+        byte(bytes, at + 2),
+        byte(bytes, at + 3),
+    ])
 }
 
 // One byte, as the spaces and line feeds between the numbers of a text. The answer is the place behind it.
@@ -48,12 +49,9 @@ pub fn put_text(out: &mut [u8], at: usize, text: &[u8]) -> usize
     requires { at + length text.now ≤ length out.old }
     ensures { Wrote out.old out.new at result text.now }
 {
-    let mut i = 0;
-    while i < text.len() {
-        out[at + i] = text[i];
-        i += 1;
-    }
-    at + text.len()
+    let end = at + text.len();
+    out[at..end].copy_from_slice(text);
+    end
 }
 
 // Two bytes, the higher first.
@@ -61,24 +59,21 @@ pub fn put_two(out: &mut [u8], at: usize, n: u16)
     requires { at + 2 ≤ length out.old }
     ensures { out.new ≡ sets out.old at (two_bytes n) }
 {
-    out[at] = (n / 256 % 256) as u8;
-    out[at + 1] = (n % 256) as u8;
+    put_text(out, at, &u16::to_be_bytes(n));
 }
 
-// Four bytes: the higher half first.
+// Four bytes, the highest first.
 pub fn put_four(out: &mut [u8], at: usize, n: u32)
     requires { at + 4 ≤ length out.old }
     ensures { out.new ≡ sets out.old at (four_bytes n) }
 {
-    put_two(out, at, (n / 65_536) as u16);
-    put_two(out, at + 2, (n % 65_536) as u16);
+    put_text(out, at, &u32::to_be_bytes(n));
 }
 
-// Eight bytes: the higher half first.
+// Eight bytes, the highest first.
 pub fn put_eight(out: &mut [u8], at: usize, n: u64)
     requires { at + 8 ≤ length out.old }
     ensures { out.new ≡ sets out.old at (eight_bytes n) }
 {
-    put_four(out, at, (n / 4_294_967_296) as u32);
-    put_four(out, at + 4, (n % 4_294_967_296) as u32);
+    put_text(out, at, &u64::to_be_bytes(n));
 }

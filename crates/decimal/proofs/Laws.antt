@@ -1,6 +1,6 @@
 -- What callers use of the texts: they have their lengths, and they are right.
 -- Assumes nothing.
-use Rattle.std.specs.Prelude.{ℕ, zero, suc, ◌+◌, ◌*◌, ◌-◌, ◌/◌, ◌%◌, ◌^◌, ◌≤◌, ◌<◌, ◌≡◌, refl, List, [], ◌∷◌, ◌++◌, Bool, true, false, ◌⊎◌, ltb, length, get_or}
+use Rattle.std.specs.Prelude.{ℕ, zero, suc, ◌+◌, ◌*◌, ◌-◌, ◌/◌, ◌%◌, ◌^◌, ◌≤◌, ◌<◌, ◌≡◌, refl, List, [], ◌∷◌, ◌++◌, Bool, true, false, ◌⊎◌, ltb, length, get_or, Option, Some, None, IfNone, IfSome, unwrap_or}
 use Rattle.std.proofs.Common.{mod-eq_of_lt, mod-lt, div-add-mod', div-le_self, lt_of_le_of_lt, not-suc-le-zero, add-one, arith, sym, ap, ◌∙◌, inl, inr, length-append, lt-ltb, le-ltb, ltb-true, ltb-false}
 use Rattle.std.proofs.Math.Nat.{one-le-pow}
 use Rattle.std.proofs.Math.ListN.{get_or-append}
@@ -91,6 +91,19 @@ digits_short (suc count) n h = go (digits_short count (n / 10)) (small_or_more n
         → length (digits n) ≤ suc (suc count)
     go ih (inl l) = rw (digits_small n l) (omega arith)
     go ih (inr l) = rw (digits_more n l, length-append) (omega (arith, ih (omega arith)))
+
+-- one of at least 10 ^ count has at least count + 1
+pub digits_long : (count n : ℕ) → 10 ^ count ≤ n → suc count ≤ length (digits n)
+digits_long zero n h = digits_some n
+digits_long (suc count) n h =
+    let tens : 10 ^ count ≤ n / 10 = omega arith in
+    rw (digits_more n (omega (arith, one-le-pow count 10 (omega arith))), length-append) (omega (arith, digits_long count (n / 10) tens))
+
+-- so there is one more than its logarithm says, and one where it has none
+pub digits_counted : (n : ℕ) (log : Option ℕ) → IfNone log (n ≡ 0) → IfSome log (λ k. 10 ^ k ≤ n) → IfSome log (λ k. n < 10 * 10 ^ k)
+    → length (digits n) ≡ unwrap_or log 0 + 1
+digits_counted n None none least most = rw (digits_small n (omega arith))
+digits_counted n (Some k) none least most = omega (arith, digits_short k n (omega arith), digits_long k n least)
 
 -- every number of 64 bits has at most twenty
 pub digits_twenty : (n : ℕ) → n < 2 ^ 64 → length (digits n) ≤ 20

@@ -1,6 +1,6 @@
 -- How the listing writes a number as text. A text is a list of bytes in ASCII: the digit d is 48 + d, and the dot is 46.
 -- Assumes nothing.
-use Rattle.std.specs.Prelude.{ℕ, zero, suc, ◌+◌, ◌-◌, ◌*◌, ◌/◌, ◌%◌, ◌^◌, ◌≤◌, ◌<◌, List, [], ◌∷◌, ◌++◌, Bool, true, false, ltb}
+use Rattle.std.specs.Prelude.{ℕ, zero, suc, ◌+◌, ◌-◌, ◌*◌, ◌/◌, ◌%◌, ◌^◌, ◌≤◌, ◌<◌, List, [], ◌∷◌, ◌++◌, true, false, ltb}
 
 -- the last `count` digits of n, with zeros in front where n has fewer
 unfoldable pub padded : ℕ → ℕ → List ℕ

@@ -10,13 +10,7 @@ ghost use Rattle.decimal.specs.Decimal.{padded, digits, fixed};
 fn digit_count(n: u64) -> usize
     ensures { (result ≡ length (digits n)) × (result ≤ 20) }
 {
-    let mut rest = n;
-    let mut count: usize = 1;
-    while 10 <= rest {
-        rest = rest / 10;
-        count += 1;
-    }
-    count
+    n.checked_ilog10().unwrap_or(0) as usize + 1
 }
 
 // The last count digits of n, with zeros in front where n has fewer. Written from the last to the
@@ -26,12 +20,10 @@ pub fn put_padded(out: &mut [u8], at: usize, count: usize, n: u64) -> usize
     ensures wrote { Wrote out.old out.new at result (padded count n) }
     ensures value { result ≡ at + count }
 {
-    let mut left = count;
     let mut rest = n;
-    while 0 < left {
-        left = left - 1;
-        out[at + left] = b'0' + (rest % 10) as u8;
-        rest = rest / 10;
+    for place in (at..at + count).rev() {
+        out[place] = b'0' + (rest % 10) as u8;
+        rest /= 10;
     }
     at + count
 }
@@ -56,24 +48,15 @@ pub fn put_number_then(out: &mut [u8], at: usize, n: u64, b: u8) -> usize
     buffer::put_byte(out, behind, b)
 }
 
-// Hundredths, with "two decimals".
-pub fn put_fixed2(out: &mut [u8], at: usize, n: u64) -> usize
-    requires { at + 24 ≤ length out.old }
-    ensures wrote { Wrote out.old out.new at result (fixed 2 n) }
+// A number with so many decimals, counted in the units that they give: hundredths "with two decimals", thousandths "with three
+// decimals".
+pub fn put_fixed(out: &mut [u8], at: usize, places: usize, n: u64) -> usize
+    requires { (places ≤ 3) × (at + 24 ≤ length out.old) }
+    ensures wrote { Wrote out.old out.new at result (fixed places n) }
     ensures upper_bound { result ≤ at + 24 }
 {
-    let dot = put_number(out, at, n / 100);
+    let whole = 10u64.pow(places as u32);
+    let dot = put_number(out, at, n / whole);
     let rest = buffer::put_byte(out, dot, b'.');
-    put_padded(out, rest, 2, n % 100)
-}
-
-// Thousandths, with "three decimals".
-pub fn put_fixed3(out: &mut [u8], at: usize, n: u64) -> usize
-    requires { at + 24 ≤ length out.old }
-    ensures wrote { Wrote out.old out.new at result (fixed 3 n) }
-    ensures upper_bound { result ≤ at + 24 }
-{
-    let dot = put_number(out, at, n / 1000);
-    let rest = buffer::put_byte(out, dot, b'.');
-    put_padded(out, rest, 3, n % 1000)
+    put_padded(out, rest, places, n % whole)
 }

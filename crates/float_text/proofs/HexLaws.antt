@@ -13,6 +13,10 @@ length_hex zero n = refl
 length_hex (suc count) n =
     omega (arith, length-append (hex_digits count (n / 16)) (hex_digit (n % 16) ∷ []), length_hex count (n / 16))
 
+pub pattern_length : (x : Float) → length (pattern_of x) ≡ 16
+unfolding pattern_of
+pattern_length x = length_hex 16 (to_bits binary64 x)
+
 -- ---- one digit
 
 pub digit_figure : (d : ℕ) → d < 10 → hex_digit d ≡ 48 + d

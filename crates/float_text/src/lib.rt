@@ -31,7 +31,7 @@ pub fn put_miles_up(out: &mut [u8], at: usize, x: f64) -> usize
     ensures upper_bound { result ≤ at + 24 }
 {
     let hundredths = up(x);
-    decimal::put_fixed2(out, at, hundredths)
+    decimal::put_fixed(out, at, 2, hundredths)
 }
 
 // The digit of a number below sixteen, in lower case: the letters stand behind 9.
@@ -52,12 +52,10 @@ pub fn put_pattern(out: &mut [u8], at: usize, x: f64) -> usize
     ensures wrote { Wrote out.old out.new at result (pattern_of x) }
     ensures value { result ≡ at + 16 }
 {
-    let mut left: usize = 16;
-    let mut rest = f64::to_bits(x);
-    while 0 < left {
-        left = left - 1;
-        out[at + left] = hex_digit((rest % 16) as u8);
-        rest = rest / 16;
+    let mut rest = x.to_bits();
+    for place in (at..at + 16).rev() {
+        out[place] = hex_digit((rest % 16) as u8);
+        rest /= 16;
     }
     at + 16
 }

@@ -16,7 +16,7 @@ pub fn put_miles(out: &mut [u8], at: usize, distance: Miles) -> usize
     ensures upper_bound { result ≤ at + 32 }
 {
     let miles = dispersion::hundredths(distance);
-    let behind = decimal::put_fixed2(out, at, miles as u64);
+    let behind = decimal::put_fixed(out, at, 2, miles as u64);
     buffer::put_byte(out, behind, b'\n')
 }
 
@@ -26,7 +26,7 @@ fn put_rates(out: &mut [u8], at: usize, rate: PoundsPerMinute, distance: Miles) 
     ensures wrote { Wrote out.old out.new at result (rates_text rate.0 distance.0) }
     ensures upper_bound { result ≤ at + 64 }
 {
-    let behind = decimal::put_fixed3(out, at, release::thousandths(rate));
+    let behind = decimal::put_fixed(out, at, 3, release::thousandths(rate));
     let next = buffer::put_byte(out, behind, b' ');
     put_miles(out, next, distance)
 }

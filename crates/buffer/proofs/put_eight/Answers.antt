@@ -1,8 +1,8 @@
--- `buffer::put_eight` meets its contract: two halves of four bytes, the higher first.
+-- `buffer::put_eight` meets its contract: eight bytes, the highest first.
 -- Assumes nothing.
-use borrow.Author.Rules.{rules}
-use Rattle.buffer.proofs.Ends.{eight_end}
+use Rattle.std.proofs.Common.{rules}
+use Rattle.buffer.proofs.Ends.{eight_be}
 use Rattle.buffer.proofs.put_eight.Goals as goal
 
 pub returns : goal.returns
-returns c = search (eight_end, rules)
+returns c = rw eight_be (search rules)

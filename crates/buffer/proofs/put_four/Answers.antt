@@ -1,8 +1,8 @@
--- `buffer::put_four` meets its contract: two halves of two bytes, the higher first.
+-- `buffer::put_four` meets its contract: four bytes, the highest first.
 -- Assumes nothing.
-use borrow.Author.Rules.{rules}
-use Rattle.buffer.proofs.Ends.{four_end}
+use Rattle.std.proofs.Common.{rules}
+use Rattle.buffer.proofs.Ends.{four_be}
 use Rattle.buffer.proofs.put_four.Goals as goal
 
 pub returns : goal.returns
-returns c = search (four_end, rules)
+returns c = rw four_be (search rules)

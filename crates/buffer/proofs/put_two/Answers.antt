@@ -1,13 +1,8 @@
--- `buffer::put_two` meets its contract: two stores, the higher byte first.
+-- `buffer::put_two` meets its contract: two bytes, the higher first.
 -- Assumes nothing.
-use native.Mathlib.Omega.{arith}
-use lib.ListN.{length-set}
-use borrow.Author.Rules.{rules}
-use Rattle.buffer.proofs.Ends.{two_end}
+use Rattle.std.proofs.Common.{rules}
+use Rattle.buffer.proofs.Ends.{two_be}
 use Rattle.buffer.proofs.put_two.Goals as goal
 
-pub bounds-out-at-2 : goal.bounds-out-at-2
-bounds-out-at-2 c = simp length-set (omega arith)
-
 pub returns : goal.returns
-returns c = search (two_end, rules)
+returns c = rw two_be (search rules)
