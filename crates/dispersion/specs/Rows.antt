@@ -1,4 +1,5 @@
--- How a table of rows and two columns is read by the arrays that the code keeps of it. The laws in proofs/ say that it means what `Rules` says.
+-- How a table of rows and two columns is read by the arrays that the code keeps of it. `lines_means` in proofs/ says that it is what
+-- the printed table answers.
 -- Assumes nothing.
 use Rattle.std.specs.Prelude.{ℕ, ◌-◌, List, ltb, min, length, get_or, Option}
 use Rattle.units.specs.declared.Miles.{Miles}

@@ -1,4 +1,5 @@
--- `rules::Ranges::read` meets its contract: a rate is below `reaching` of a bound exactly where it does not reach the bound. Assumes nothing.
+-- `rules::Ranges::read` meets its contract: a rate is below `reaching` of a bound exactly where it does not reach the bound.
+-- Assumes nothing.
 use Rattle.std.proofs.Common.{rules, arith, ℕ, List, suc, ◌+◌, ◌*◌, ◌/◌, ◌≤◌, ◌<◌, length, get_or}
 use Rattle.rules.proofs.Scaled.{scaled_place}
 use Rattle.rules.proofs.Ranges.read.Goals as goal
