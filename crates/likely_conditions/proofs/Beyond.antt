@@ -1,6 +1,7 @@
 -- Condition 11 is what a table of likely scenarios does not answer; and a scenario's endpoint is that of the exhibits.
 -- Assumes nothing.
 use Rattle.std.specs.Prelude.{ℕ, ◌-◌, ◌<◌, ◌≤◌, ◌≡◌, Bool, true, false, not, List, map, eqb, ltb, length, Option, Some, None}
+use Rattle.std.specs.Option.{is_none}
 use Rattle.interpolation.specs.declared.Likely.{Likely}
 use Rattle.scenario.specs.declared.Scenario.{Scenario}
 use Rattle.units.specs.declared.Miles.{Miles}
@@ -38,11 +39,6 @@ use Rattle.likely_tables.specs.LikelyTables.{likely_tables, range_read, likely_i
 use Rattle.conditions.specs.Conditions.{above_last, last_in_use, beyond_table}
 use Rattle.conditions.proofs.Beyond.{is_beyond, endless, table_beyond}
 
--- what a table does not answer
-abbrev pub is_unanswered : Option Likely → Bool
-is_unanswered (Some l) = false
-is_unanswered None = true
-
 -- above the last of some rates that climb, the search ends behind them
 above_is : (xs : List ℕ) (rate : ℕ) → climbs xs ≡ true → 0 < length xs → ltb (last_of xs) rate ≡ not (ltb (first_at_least rate xs) (length xs))
 unfolding last_of
@@ -57,25 +53,25 @@ above_is xs rate climb some =
     (lt_or_ge last rate)
 
 -- the rule of 11
-last_is : (entry : ℕ) → not (eqb entry mile_limit) ≡ is_unanswered (rows.above_last entry)
+last_is : (entry : ℕ) → not (eqb entry mile_limit) ≡ is_none (rows.above_last entry)
 unfolding rows.above_last
 last_is entry = go (eqb entry mile_limit)
   where
-    go : (t : Bool) → not t ≡ is_unanswered (elim t as (λ _. Option Likely) [ true ↦ Some (Limit (float_of entry)) | false ↦ None ])
+    go : (t : Bool) → not t ≡ is_none (elim t as (λ _. Option Likely) [ true ↦ Some (Limit (float_of entry)) | false ↦ None ])
     go true = refl
     go false = refl
 
 -- a table of rows
-rows_beyond : (xs : List ℕ) (entry : ℕ → ℕ) (rate : ℕ) → climbs xs ≡ true → 0 < length xs → both (ltb (last_of xs) rate) (not (eqb (entry (length xs - 1)) mile_limit)) ≡ is_unanswered (likely_at xs entry rate)
+rows_beyond : (xs : List ℕ) (entry : ℕ → ℕ) (rate : ℕ) → climbs xs ≡ true → 0 < length xs → both (ltb (last_of xs) rate) (not (eqb (entry (length xs - 1)) mile_limit)) ≡ is_none (likely_at xs entry rate)
 unfolding likely_at
 rows_beyond xs entry rate climb some =
     ap (λ t. both t (not (eqb (entry (length xs - 1)) mile_limit))) (above_is xs rate climb some) ∙ go (ltb (first_at_least rate xs) (length xs))
   where
-    go : (t : Bool) → both (not t) (not (eqb (entry (length xs - 1)) mile_limit)) ≡ is_unanswered (elim t as (λ _. Option Likely) [ true ↦ Some (by_first (first_at_least rate xs) xs entry rate) | false ↦ rows.above_last (entry (length xs - 1)) ])
+    go : (t : Bool) → both (not t) (not (eqb (entry (length xs - 1)) mile_limit)) ≡ is_none (elim t as (λ _. Option Likely) [ true ↦ Some (by_first (first_at_least rate xs) xs entry rate) | false ↦ rows.above_last (entry (length xs - 1)) ])
     go true = refl
     go false = last_is (entry (length xs - 1))
 
-row_beyond : (rates entries : List ℕ) (rate : ℕ) → climbs (thousandths rates) ≡ true → 0 < length rates → both (ltb (last_of (thousandths rates)) rate) (not (eqb (in_use entries (length rates - 1)) mile_limit)) ≡ is_unanswered (likely_by_row rates entries rate)
+row_beyond : (rates entries : List ℕ) (rate : ℕ) → climbs (thousandths rates) ≡ true → 0 < length rates → both (ltb (last_of (thousandths rates)) rate) (not (eqb (in_use entries (length rates - 1)) mile_limit)) ≡ is_none (likely_by_row rates entries rate)
 unfolding likely_by_row
 row_beyond rates entries rate climb some =
     let z = length_thousandths rates in
@@ -96,12 +92,12 @@ sound_at : (n : ℕ) → is_sound (get_or likely_tables n unprinted) ≡ true
 unfolding in_order joined climbs climbs_from thousandths uppers likely_tables
 sound_at n = every_at is_sound likely_tables unprinted refl refl n
 
-range_is : (x : Option Miles) → is_beyond x ≡ is_unanswered (range_read x)
+range_is : (x : Option Miles) → is_beyond x ≡ is_none (range_read x)
 range_is (Some d) = refl
 range_is None = refl
 
 module _ (topography : Ground) (rate endpoint : ℕ) where
-  table_unanswered : (t : Table) → in_order t ≡ true → endless t ≡ true → has_rows t ≡ true → beyond_table t topography rate endpoint ≡ is_unanswered (likely_in t topography rate endpoint)
+  table_unanswered : (t : Table) → in_order t ≡ true → endless t ≡ true → has_rows t ≡ true → beyond_table t topography rate endpoint ≡ is_none (likely_in t topography rate endpoint)
   unfolding beyond_table above_last last_in_use read_in likely_in in_order
   table_unanswered (ranges table) o e h =
       table_beyond topography rate endpoint (ranges table) o e ∙ range_is (by_range table rate endpoint)
@@ -114,7 +110,7 @@ module _ (topography : Ground) (rate endpoint : ℕ) where
   table_unanswered unprinted o e h = refl
 
   -- 11 holds exactly where the table does not answer
-  pub reading_unanswered : (n : ℕ) → beyond_table (get_or likely_tables (n - 13) unprinted) topography rate endpoint ≡ is_unanswered (likely_reading n topography rate endpoint)
+  pub reading_unanswered : (n : ℕ) → beyond_table (get_or likely_tables (n - 13) unprinted) topography rate endpoint ≡ is_none (likely_reading n topography rate endpoint)
   unfolding likely_reading
   reading_unanswered n =
       let t : Table = get_or likely_tables (n - 13) unprinted in

@@ -2,6 +2,7 @@
 -- when none does.
 -- Assumes nothing.
 use Rattle.std.specs.Prelude.{Option, Some, None, Result, Ok, Err}
+use Rattle.std.specs.Option.{is_none}
 use Rattle.interpolation.specs.declared.Likely.{Likely}
 use Rattle.scenario.specs.declared.Scenario.{Scenario}
 use Prim.Native.Nat.{ℕ, zero, suc, ◌-◌}
@@ -37,7 +38,7 @@ use Rattle.likely_scenario.specs.declared.LikelyScenario.{LikelyScenario}
 use Rattle.likely_scenario.specs.LikelyScenario.{bad_rate, likely_table, told, planned_likely, meant_likely, shaped_likely, card_likely, unless_refused, likely_of}
 use Rattle.likely_conditions.specs.Conditions.{not_toxic_form, beyond_likely, of_likely, likely_conditions_at}
 use Rattle.likely_conditions.specs.Claim.{LikelyExactly}
-use Rattle.likely_conditions.proofs.Beyond.{is_unanswered, reading_unanswered, EndsAt, endpoint_is}
+use Rattle.likely_conditions.proofs.Beyond.{reading_unanswered, EndsAt, endpoint_is}
 
 -- a scenario, or a refusal
 abbrev verdict_of : Result LikelyScenario Refusal → Verdict
@@ -46,7 +47,7 @@ verdict_of (Err r) = refused r
 
 -- ---- 10 and 11
 
-told_verdict : (x : Option Likely) (table : ℕ) → verdict_of (told x table) ≡ pick (is_unanswered x) refusal.Beyond passed
+told_verdict : (x : Option Likely) (table : ℕ) → verdict_of (told x table) ≡ pick (is_none x) refusal.Beyond passed
 told_verdict (Some l) table = refl
 told_verdict None table = refl
 
