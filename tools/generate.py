@@ -620,6 +620,21 @@ def rt_numbers(numbers, indent=0, field=False):
     return "\n".join(["[", *lines]) + ",\n" + " " * indent + "]"
 
 
+def rt_nested(items, indent=0):
+    """An array of arrays' text, each on lines of its own, down to arrays of numbers."""
+    if not isinstance(items[0], (list, tuple)):
+        return rt_numbers(items, indent)
+    margin = " " * (indent + 4)
+    return "\n".join(["[", *(f"{margin}{rt_nested(item, indent + 4)}," for item in items), " " * indent + "]"])
+
+
+def rt_tables(comment, name, tables):
+    """A constant of several tables of sixteen-bit numbers, alike in their rows and columns."""
+    rows, columns = len(tables[0]), len(tables[0][0])
+    expect(all(0 <= number < 2**16 for number in flat(flat(tables))), name, "a number does not fit 16 bits")
+    return [f"// {comment}", f"pub const {name}: [[[u16; {columns}]; {rows}]; {len(tables)}] = {rt_nested(tables)};"]
+
+
 def rt_array(comment, name, width, numbers):
     expect(all(0 <= number < 2**width for number in numbers), name, f"a number does not fit {width} bits")
     return [f"// {comment}", f"pub const {name}: [u{width}; {len(numbers)}] = {rt_numbers(numbers)};"]
@@ -812,33 +827,21 @@ def column_cuts(title, first):
                     "COLUMN_UPTO", 64, endpoint_cuts(first["endpoints"]))
 
 
+def dense_entries(table):
+    return entries_in_use([[distance_read(mark) for mark in row] for row in table["marks"]])
+
+
 def dense_rows(tables):
     first = alike(tables)
-    rows = flat(entries_in_use([[distance_read(mark) for mark in row] for row in table["marks"]]) for table in tables.values())
-    arms = [(f"Table {DENSE_TABLES[place // DENSE_ROW_COUNT]}" if place % DENSE_ROW_COUNT == 0 else None, place, rt_numbers(row, ARM_INDENT))
-            for place, row in enumerate(rows)]
     return rt_file(sources_of(tables), [
         rt_array("Tables 5 to 8: the largest rate that reads each row but the last, in thousandths of a pound per minute.", "ROW_UPTO", 64,
                  rate_cuts(first["rates"])),
         rt_number("Tables 5 to 8: the rate of the last row, in thousandths of a pound per minute.", "LAST_ROW", 64,
                   1000 * first["rates"][-1]),
         column_cuts("Tables 5 to 8", first),
-        rt_match(f"Tables 5 to 8: the entries in use in hundredths of a mile, {DENSE_ROW_COUNT} rows a table.",
-                 f"row_of(row: usize) -> [u16; {DENSE_COLUMN_COUNT}]", "result ≡ get_or dense_rows row no_row", "row", arms,
-                 f"[0; {DENSE_COLUMN_COUNT}]"),
-    ], ["ghost use Rattle.std.specs.Prelude.{◌≡◌, get_or};", "ghost use Rattle.dense.specs.Grids.{dense_rows, no_row};"])
-
-
-def dense_proof():
-    count = DENSE_ROW_COUNT * len(DENSE_TABLES)
-    return arms_proof(
-        "dense", "row_of",
-        ["use Rattle.std.specs.Prelude.{refl, get_or}", "use Rattle.std.proofs.Common.{sym}",
-         "use Rattle.std.proofs.lemmas.List.{get_or_past}",
-         "use Rattle.search.specs.Flat.{flat}", "use Rattle.search.specs.Arms.{arm, beyond}",
-         "use Rattle.rules.specs.Carried.{grid_in_use}", "use Rattle.dense.specs.Grids.{dense_tables, dense_rows, no_row}"],
-        "dense_rows dense_tables grid_in_use flat", "(λ n. get_or dense_rows n no_row)", range(count),
-        f"sym (get_or_past dense_rows _ no_row (beyond _ {count} {DEFAULT_KNOWN}))")
+        rt_tables("Tables 5 to 8: the entries in use in hundredths of a mile, row by row.", "ENTRIES",
+                  [dense_entries(table) for table in tables.values()]),
+    ])
 
 
 def lines_constant(number, table, what, field, rates):
@@ -860,15 +863,13 @@ def chemical_constants(tables):
 
 def likely_dense_columns(tables):
     """The entries in use of Tables 18 to 21 column by column, since two neighbouring rows of one column are read."""
-    first, columns = alike(tables), []
-    for table in tables.values():
-        columns += zip(*entries_in_use([[distance_read(mark) for mark in row] for row in table["marks"]]))
+    first = alike(tables)
     return rt_file(sources_of(tables), [
         rt_array("Tables 18 to 21: the rates of the rows, in thousandths of a pound per minute.", "RATE", 64,
                  [1000 * rate for rate in first["rates"]]),
         column_cuts("Tables 18 to 21", first),
-        rt_array(f"Tables 18 to 21: the entries in use in hundredths of a mile, {DENSE_COLUMN_COUNT} columns a table, "
-                 f"{DENSE_ROW_COUNT} rows a column.", "COLUMNS", 16, flat(columns)),
+        rt_tables("Tables 18 to 21: the entries in use in hundredths of a mile, column by column.", "ENTRIES",
+                  [list(zip(*dense_entries(table))) for table in tables.values()]),
     ])
 
 
@@ -922,7 +923,6 @@ def generated_files():
         "crates/neutral/src/tables.rt": neutral_constants(neutral),
         "crates/dense/specs/PrintedDense.antt": printed_dense(dense),
         "crates/dense/src/tables.rt": dense_rows(dense),
-        "crates/dense/proofs/tables/row_of/Answers.antt": dense_proof(),
         "crates/dispersion/specs/PrintedChemical.antt": printed_chemical(chemical),
         "crates/dispersion/src/tables.rt": chemical_constants(chemical),
         "crates/likely_neutral/specs/PrintedNeutral.antt": printed_neutral(likely_neutral),

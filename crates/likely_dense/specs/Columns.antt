@@ -1,7 +1,6 @@
 -- Tables 18 to 21 by their numbers, and their columns as the code keeps them: they are printed with the same rates and endpoints.
 -- Assumes nothing.
 use Rattle.std.specs.Prelude.{ℕ, zero, suc, List, [], ◌∷◌, map}
-use Rattle.search.specs.Flat.{flat}
 use Rattle.rules.specs.Printed.{Mark}
 use Rattle.rules.specs.Rules.{from_column}
 use Rattle.rules.specs.Carried.{running}
@@ -20,7 +19,3 @@ counted_from from (suc n) = from ∷ counted_from (suc from) n
 -- the sixteen columns of a table, each with its entries in use from top to bottom
 unfoldable pub columns_in_use : List (List Mark) → List (List ℕ)
 columns_in_use rows = map (λ column. running 0 (from_column column rows)) (counted_from 0 16)
-
--- the columns of all four, one behind the other
-unfoldable pub dense_columns : List (List ℕ)
-dense_columns = flat (map columns_in_use dense_tables)

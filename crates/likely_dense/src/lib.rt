@@ -1,4 +1,4 @@
-// Reference Tables 18 to 21, of likely scenarios, by rates and endpoints: one array holds the entries in use of all four, column by
+// Reference Tables 18 to 21, of likely scenarios, by rates and endpoints: one constant holds the entries in use of all four, column by
 // column, so that the rows of one column are lent as they stand.
 #![tactic(auto)]
 
@@ -11,12 +11,7 @@ ghost use Rattle.likely_dense.specs.PrintedDense.{rates18, endpoints18};
 ghost use Rattle.likely_dense.specs.Columns.{dense_tables};
 
 use interpolation::Likely;
-use tables::{COLUMN_UPTO, COLUMNS, RATE};
-
-// A dense table has 27 rows and 16 columns.
-const ROW_COUNT: usize = 27;
-
-const COLUMN_COUNT: usize = 16;
+use tables::{COLUMN_UPTO, ENTRIES, RATE};
 
 // The column that an endpoint in hundred-thousandths of mg/L reads.
 fn column_of(endpoint: u32) -> usize
@@ -33,7 +28,5 @@ pub fn read(table: u8, rate: u64, endpoint: u32) -> Option<Likely>
     ensures { result ≡ likely_by_row rates18 (from_column (closest_column endpoint endpoints18) (get_or dense_tables (table - 18) [])) rate }
 {
     let column = column_of(endpoint);
-    let start = ROW_COUNT * (COLUMN_COUNT * (table as usize - 18) + column);
-    let end = start + ROW_COUNT;
-    interpolation::read(&RATE, &COLUMNS[start..end], rate)
+    interpolation::read(&RATE, &ENTRIES[table as usize - 18][column], rate)
 }
