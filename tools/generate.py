@@ -683,33 +683,23 @@ def rt_cell(cell):
     return f"Cell::{CELL_VARIANTS[cell]}" if cell in CELL_VARIANTS else f"Cell::Factor({cell})"
 
 
-def rt_plumes(substance, *columns):
-    return {column: f"Plume::{substance[column]}" for column in columns}
+def rt_corrections(cells):
+    return rt_record("Corrections", dict(zip(("at30", "at35", "at40", "at45", "at50"), map(rt_cell, cells))), ARM_INDENT + 4)
 
 
-def rt_gas(gas):
-    fields = {name: gas[name] for name in ("lfb", "df", "endpoint")}
-    fields.update(rt_plumes(gas, "plume"))
-    return f"Toxic::OfGas({rt_record('Gas', fields, ARM_INDENT)})"
-
-
-def rt_liquid(liquid, cells):
-    fields = {name: liquid[name] for name in ("lfa", "lfb", "df", "endpoint")}
-    fields.update(rt_plumes(liquid, "plume", "alternative"))
-    columns = dict(zip(("at30", "at35", "at40", "at45", "at50"), map(rt_cell, cells)))
-    fields["corrections"] = rt_record("Corrections", columns, ARM_INDENT + 4)
-    return f"Toxic::OfLiquid({rt_record('Liquid', fields, ARM_INDENT)})"
-
-
-def rt_solution(solution, indent):
-    fields = {name: solution[name] for name in ("lfa", "df", "endpoint")}
-    fields.update(rt_plumes(solution, "plume", "alternative"))
-    return f"Toxic::OfSolution({rt_record('Solution', fields, indent)})"
+def rt_substance(kind, substance, columns, indent=ARM_INDENT, **more):
+    """A case of `Toxic` with its struct, both named after the kind in crates/exhibits/src/lib.rt."""
+    fields = {column: substance[column] for column in columns.split()}
+    for column in fields.keys() & {"plume", "alternative"}:
+        fields[column] = f"Plume::{fields[column]}"
+    return f"Toxic::Of{kind}({rt_record(kind, {**fields, **more}, indent)})"
 
 
 def exhibit_lines(gases, liquids, factors):
-    arms = [(x["name"], x["cas"], rt_gas(x)) for x in gases]
-    arms += [(x["name"], x["cas"], rt_liquid(x, y["cells"])) for x, y in zip(liquids, factors)]
+    arms = [(x["name"], x["cas"], rt_substance("Gas", x, "lfb df endpoint plume")) for x in gases]
+    arms += [(x["name"], x["cas"],
+              rt_substance("Liquid", x, "lfa lfb df endpoint plume alternative", corrections=rt_corrections(y["cells"])))
+             for x, y in zip(liquids, factors)]
     return rt_file(
         "data/b1.tsv, b2.tsv and b4.tsv",
         [rt_match("What the exhibits say of a CAS number: Exhibit B-1, then B-2 with its factors of B-4, in the printed order.",
@@ -728,10 +718,10 @@ def by_substance(solutions):
 
 def solution_arm(lines):
     """What a substance's arm computes: the line of the first concentration that is not below the one asked for."""
-    margin = " " * ARM_INDENT
-    steps = [f"{margin}    ..={line['percent']} => {rt_solution(line, ARM_INDENT + 4)}," for line in lines]
-    out = "Toxic::OutOfRange"
-    return "\n".join(["match tenths {", f"{margin}    0 => {out},", *steps, f"{margin}    _ => {out},", margin + "}"])
+    margin, out = " " * ARM_INDENT, "Toxic::OutOfRange"
+    steps = [f"..={x['percent']} => {rt_substance('Solution', x, 'lfa df endpoint plume alternative', ARM_INDENT + 4)}" for x in lines]
+    arms = [f"0 => {out}", *steps, f"_ => {out}"]
+    return "\n".join(["match tenths {", *(f"{margin}    {arm}," for arm in arms), margin + "}"])
 
 
 def solution_lines(solutions):
