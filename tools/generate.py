@@ -31,10 +31,6 @@ TEMPERATURE_FACTOR_LIMIT = 1_000
 PERCENT_LIMIT = 1_000
 HEAT_LIMIT = 150_000
 
-# What the code stores in CELL where Exhibit B-4 prints no factor: above every factor that it may print.
-CELL_LFB = 65534
-CELL_NO_DATA = 65535
-
 # What a mark reads, in hundredths of a mile.
 NEAREST = 10
 FARTHEST = 2500
@@ -699,34 +695,32 @@ def arms_proof(crate, function, imports, unfolding, meaning, keys, last):
 
 
 def rt_cell(cell):
-    return {"LFB": CELL_LFB, "ND": CELL_NO_DATA}.get(cell, cell)
+    return f"Cell::{CELL_VARIANTS[cell]}" if cell in CELL_VARIANTS else f"Cell::Factor({cell})"
 
 
-NO_SUBSTANCE = {"lfa": 0, "lfb": 0, "df": 0, "endpoint": 0, "plume": "Neutral", "alternative": "Neutral"}
-NO_FACTORS = ["ND"] * 5
-
-# The kinds of `Line` in crates/exhibits/src/lib.rt.
-KIND_NONE, KIND_GAS, KIND_LIQUID, KIND_SOLUTION, KIND_ABOVE = range(5)
+def rt_corrections(cells):
+    return rt_record("Corrections", dict(zip(("at30", "at35", "at40", "at45", "at50"), map(rt_cell, cells))), ARM_INDENT + 4)
 
 
-def exhibit_line(kind, substance=NO_SUBSTANCE, cells=NO_FACTORS, indent=ARM_INDENT):
-    """The flat line of a substance; the fields are those of `Line` in crates/exhibits/src/lib.rt."""
-    fields = {"kind": kind, "lfa": substance["lfa"], "lfb": substance["lfb"], "df": substance["df"],
-              "endpoint": substance["endpoint"], "dense": int(substance["plume"] == "Dense"),
-              "alternative": int(substance["alternative"] == "Dense")}
-    fields.update(zip(("at30", "at35", "at40", "at45", "at50"), map(rt_cell, cells)))
-    return rt_record("Line", fields, indent)
+def rt_substance(kind, substance, columns, indent=ARM_INDENT, **more):
+    """A case of `Toxic` with its struct, both named after the kind in crates/exhibits/src/lib.rt."""
+    fields = {column: substance[column] for column in columns.split()}
+    for column in fields.keys() & {"plume", "alternative"}:
+        fields[column] = f"Plume::{fields[column]}"
+    return f"Toxic::Of{kind}({rt_record(kind, {**fields, **more}, indent)})"
 
 
 def exhibit_lines(gases, liquids, factors):
-    arms = [(x["name"], x["cas"], exhibit_line(KIND_GAS, x)) for x in gases]
-    arms += [(x["name"], x["cas"], exhibit_line(KIND_LIQUID, x, y["cells"])) for x, y in zip(liquids, factors)]
+    arms = [(x["name"], x["cas"], rt_substance("Gas", x, "lfb df endpoint plume")) for x in gases]
+    arms += [(x["name"], x["cas"],
+              rt_substance("Liquid", x, "lfa lfb df endpoint plume alternative", corrections=rt_corrections(y["cells"])))
+             for x, y in zip(liquids, factors)]
     return rt_file(
         "data/b1.tsv, b2.tsv and b4.tsv",
-        [rt_match("The line of a CAS number: Exhibit B-1, then B-2 with its factors of B-4, in the printed order.",
-                  "line_of(cas: u32) -> Line", "result ≡ line_of (toxic_of cas)", "cas", arms, exhibit_line(KIND_NONE))],
-        ["ghost use Rattle.std.specs.Prelude.{◌≡◌};", "ghost use Rattle.exhibits.specs.Exhibits.{toxic_of};",
-         "ghost use Rattle.exhibits.specs.Lines.{line_of};"], ["use crate::Line;"])
+        [rt_match("What the exhibits say of a CAS number: Exhibit B-1, then B-2 with its factors of B-4, in the printed order.",
+                  "toxic_of(cas: u32) -> Toxic", "result ≡ toxic_of cas", "cas", arms, "Toxic::NotListed")],
+        ["ghost use Rattle.std.specs.Prelude.{◌≡◌};", "ghost use Rattle.exhibits.specs.Exhibits.{toxic_of};"],
+        ["use crate::{Cell, Corrections, Gas, Liquid, Plume, Toxic};"])
 
 
 def by_substance(solutions):
@@ -739,67 +733,57 @@ def by_substance(solutions):
 
 def solution_arm(lines):
     """What a substance's arm computes: the line of the first concentration that is not below the one asked for."""
-    margin = " " * ARM_INDENT
-    arm = ["{"]
-    for line in lines:
-        arm += [f"{margin}    if tenths <= {line['percent']} {{",
-                f"{margin}        return {exhibit_line(KIND_SOLUTION, line, indent=ARM_INDENT + 8)};", f"{margin}    }}"]
-    return "\n".join(arm + [f"{margin}    {exhibit_line(KIND_ABOVE, indent=ARM_INDENT + 4)}", margin + "}"])
+    margin, out = " " * ARM_INDENT, "Toxic::OutOfRange"
+    steps = [f"..={x['percent']} => {rt_substance('Solution', x, 'lfa df endpoint plume alternative', ARM_INDENT + 4)}" for x in lines]
+    arms = [f"0 => {out}", *steps, f"_ => {out}"]
+    return "\n".join(["match tenths {", *(f"{margin}    {arm}," for arm in arms), margin + "}"])
 
 
 def solution_lines(solutions):
     arms = [(lines[0]["name"], cas, solution_arm(lines)) for cas, lines in by_substance(solutions).items()]
     return rt_file(
         "data/b3.tsv",
-        [rt_match("The line of Exhibit B-3 that is read at a concentration: the lowest printed one not below it.",
-                  "line_of(cas: u32, tenths: u16) -> Line", "result ≡ line_of (read_at cas tenths)", "cas", arms,
-                  exhibit_line(KIND_NONE))],
-        ["ghost use Rattle.std.specs.Prelude.{◌≡◌};", "ghost use Rattle.exhibits.specs.Lines.{line_of};",
-         "ghost use Rattle.solutions.specs.Lines.{read_at};"], ["use exhibits::Line;"])
+        [rt_match("What Exhibit B-3 says of a CAS number at a concentration: the lowest printed one not below it is read.",
+                  "solution_of(cas: u32, tenths: u16) -> Toxic", "result ≡ solution_of cas tenths", "cas", arms, "Toxic::NotListed")],
+        ["ghost use Rattle.std.specs.Prelude.{◌≡◌};", "ghost use Rattle.solutions.specs.Solutions.{solution_of};"],
+        ["use exhibits::{Plume, Solution, Toxic};"])
 
 
 def exhibit_proof(gases, liquids):
     return arms_proof(
-        "exhibits", "line_of",
+        "exhibits", "toxic_of",
         ["use mathlib.Core.Path.{refl}", "use Rattle.search.specs.Arms.{arm}", "use Rattle.search.specs.Places.{look_up}",
          "use Rattle.exhibits.specs.PrintedB1.{b1}", "use Rattle.exhibits.specs.PrintedB2.{b2}",
          "use Rattle.exhibits.specs.PrintedB4.{b4}", "use Rattle.exhibits.specs.Exhibits.{factors_of, toxic_of}",
-         "use Rattle.exhibits.specs.Lines.{line_of}", "use Rattle.exhibits.proofs.Laws.{no_line}"],
-        "toxic_of look_up factors_of b1 b2 b4", "(λ n. line_of (toxic_of n))", [x["cas"] for x in gases + liquids],
+         "use Rattle.exhibits.proofs.Laws.{no_line}"],
+        "toxic_of look_up factors_of b1 b2 b4", "toxic_of", [x["cas"] for x in gases + liquids],
         f"no_line _ {DEFAULT_KNOWN}")
 
 
-def condition_names(groups):
-    """The prover's names of the conditions of the arms, in the order of the code: of those alike, the second ends in -2."""
-    count, names = {}, {}
-    for cas, lines in groups.items():
-        for line in lines:
-            name = f"tenths-le{line['percent']}"
-            count[name] = count.get(name, 0) + 1
-            names[cas, line["percent"]] = name if count[name] == 1 else f"{name}-{count[name]}"
-    return names
-
-
 def solution_proof(solutions):
-    """The answers: first each `return` of each arm, then the arms' ends, then the end of the `match`."""
+    """The answers: of each arm zero, its steps and what is above them, then the end of the `match`."""
     groups = by_substance(solutions)
-    conditions = condition_names(groups)
+    # The prover's names: of places alike, the second ends in -tenths, the third in -tenths-2.
+    count = {"in_default": 1}
+
+    def place(name):
+        count[name] = count.get(name, 0) + 1
+        return name + {1: "", 2: "-tenths"}.get(count[name], f"-tenths-{count[name] - 1}")
+
     steps = []
     for cas, lines in groups.items():
         bounds = [line["percent"] for line in lines]
-        steps.append((f"then-{conditions[cas, bounds[0]]}", f"up_to {cas} {bounds[0]} refl"))
-        steps += [(f"then-{conditions[cas, high]}", f"between {cas} {low} {high} refl") for low, high in zip(bounds, bounds[1:])]
-    for cas, lines in groups.items():
-        highest = lines[-1]["percent"]
-        steps.append((f"else-{conditions[cas, highest]}", f"above {cas} {highest} refl"))
-    answers = [(f"returns-{place}", f"search ({step}, rules)") for place, step in steps]
+        steps += [(place("in-0"), f"at_zero {cas}"), (place(f"in-0-to-{bounds[0]}"), f"up_to {cas} {bounds[0]} refl")]
+        steps += [(place(f"in-0-to-{high}"), f"between {cas} {low} {high} refl") for low, high in zip(bounds, bounds[1:])]
+        steps.append((place("in_default"), f"above {cas} {bounds[-1]} refl"))
+    answers = [(f"returns-{name}", f"search ({step}, rules)") for name, step in steps]
     return answers_proof(
-        "solutions", "tables", "line_of", "each step of an arm\n-- is what is printed at its upper end. Assumes nothing.",
+        "solutions", "tables", "solution_of", "each step of an arm\n-- is what is printed at its upper end. Assumes nothing.",
         ["use mathlib.Core.Path.{refl}", "use mathlib.Core.List.{[], ◌∷◌}", "use borrow.Author.Rules.{rules}",
          "use Rattle.search.specs.Places.{among}", "use Rattle.solutions.specs.PrintedB3.{b3}",
-         "use Rattle.solutions.specs.Solutions.{lines_of, lowest}", "use Rattle.solutions.specs.Lines.{read_at}",
-         "use Rattle.solutions.proofs.Steps.{up_to, between, above, no_line}"],
-        "read_at among lines_of lowest b3",
+         "use Rattle.solutions.specs.Solutions.{lines_of, lowest, highest, bad_percent, solution_of}",
+         "use Rattle.solutions.proofs.Steps.{read_at, at_zero, up_to, between, above, no_line}"],
+        "solution_of bad_percent read_at among lines_of lowest highest b3",
         answers + [(DEFAULT_GOAL, f"no_line _ _ ({antt_list(groups)}) refl {DEFAULT_KNOWN}")])
 
 
@@ -882,8 +866,9 @@ def likely_chemical_constants(tables):
 def heat_lines(flammables):
     return rt_file("data/c1.tsv", [
         rt_match("The heat of combustion of a flammable substance by its CAS number, in kilojoules per kilogram: Exhibit C-1, in the\n"
-                 "// printed order; 0 for a substance that it does not list.",
-                 "heat_of(cas: u32) -> u32", "result ≡ heat_of cas", "cas", [(x["name"], x["cas"], x["heat"]) for x in flammables], 0),
+                 "// printed order; none for a substance that it does not list.",
+                 "heat_of(cas: u32) -> Option<u32>", "result ≡ heat_of cas", "cas",
+                 [(x["name"], x["cas"], f"Some({x['heat']})") for x in flammables], "None"),
     ], ["ghost use Rattle.std.specs.Prelude.{◌≡◌};", "ghost use Rattle.combustion.specs.Heats.{heat_of};"])
 
 
@@ -915,10 +900,10 @@ def generated_files():
         "crates/exhibits/specs/PrintedB2.antt": printed_b2(liquids),
         "crates/exhibits/specs/PrintedB4.antt": printed_b4(factors),
         "crates/exhibits/src/tables.rt": exhibit_lines(gases, liquids, factors),
-        "crates/exhibits/proofs/tables/line_of/Answers.antt": exhibit_proof(gases, liquids),
+        "crates/exhibits/proofs/tables/toxic_of/Answers.antt": exhibit_proof(gases, liquids),
         "crates/solutions/specs/PrintedB3.antt": printed_b3(solutions),
         "crates/solutions/src/tables.rt": solution_lines(solutions),
-        "crates/solutions/proofs/tables/line_of/Answers.antt": solution_proof(solutions),
+        "crates/solutions/proofs/tables/solution_of/Answers.antt": solution_proof(solutions),
         "crates/neutral/specs/PrintedNeutral.antt": printed_neutral(neutral),
         "crates/neutral/src/tables.rt": neutral_constants(neutral),
         "crates/dense/specs/PrintedDense.antt": printed_dense(dense),

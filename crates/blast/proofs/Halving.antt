@@ -5,10 +5,11 @@ use Prim.Native.Nat.{ℕ, ◌+◌, ◌*◌, ◌/◌, ◌≤◌, ◌<◌}
 use native.Mathlib.Nat.{mul-le-mul}
 use native.Mathlib.Omega.{arith}
 use mathlib.Core.Path.{◌≡◌, ap, ◌∙◌}
+use Rattle.std.specs.Prelude.{Some, None}
 use mir.Val.{Fits}
 use mir.Syntax.{w64}
 use Rattle.combustion.specs.Heats.{heat_of}
-use Rattle.blast.specs.Blast.{Least, metres_of, hundredths_of, ring_of}
+use Rattle.blast.specs.Blast.{metres_of, hundredths_of, ring_by, ring_of}
 use Rattle.blast.proofs.Laws.{cube_mono, only_least}
 
 -- the farthest that is looked at is enough for any quantity of four bytes at any heat
@@ -58,6 +59,11 @@ met pounds heat low span h b =
     })
 
 -- the distance of the metres that are found
-pub ring_is : (cas pounds heat metres : ℕ) → heat ≡ heat_of cas → metres ≡ metres_of pounds heat → record { 0 = hundredths_of metres } ≡ ring_of cas pounds
+pub ring_is : (cas pounds heat metres : ℕ) → Some heat ≡ heat_of cas → metres ≡ metres_of pounds heat → record { 0 = hundredths_of metres } ≡ ring_of cas pounds
 unfolding ring_of
-ring_is cas pounds heat metres h m = ap (λ (d : ℕ). record { 0 = hundredths_of d }) (m ∙ ap (metres_of pounds) h)
+ring_is cas pounds heat metres h m = ap (λ (d : ℕ). record { 0 = hundredths_of d }) m ∙ ap (ring_by pounds) h
+
+-- and of a substance without a heat
+pub no_ring : (cas pounds : ℕ) → None ≡ heat_of cas → record { 0 = 0 } ≡ ring_of cas pounds
+unfolding ring_of
+no_ring cas pounds h = ap (ring_by pounds) h

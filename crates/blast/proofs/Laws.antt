@@ -1,11 +1,11 @@
 -- What other crates use of a blast instead of its text: a fuller tank of one substance never draws the smaller ring. That the ring is the
 -- least number of metres that satisfies the inequality, and the only such number, is `exactly_one`.
 -- Assumes nothing.
-use Rattle.std.specs.Prelude.{ℕ, zero, suc, ◌+◌, ◌*◌, ◌≤◌, ◌<◌, ◌≡◌, refl, Bool, true, false}
+use Rattle.std.specs.Prelude.{ℕ, zero, suc, ◌+◌, ◌*◌, ◌≤◌, ◌<◌, ◌≡◌, refl, Bool, true, false, Option, Some, None}
 use Rattle.std.proofs.Common.{zero-le, suc-le-suc, le_trans, mul-le-mul, mul-le-mul_left, mul-le-mul_right, arith, ap, ◌∙◌, ⊎_elim, leb-true, leb-false, le-leb}
 use Rattle.search.specs.Laws.{lt_or_ge}
 use Rattle.combustion.specs.Heats.{heat_of}
-use Rattle.blast.specs.Blast.{Enough, Least, enough, first_from, metres_of, hundredths_of, ring_of}
+use Rattle.blast.specs.Blast.{Enough, Least, enough, first_from, metres_of, ring_by, ring_of}
 
 -- the test passes at what is found, where it passes at the last number that is looked at
 first_passes : (test : ℕ → Bool) (further d : ℕ) → test (d + further) ≡ true → test (first_from test further d) ≡ true
@@ -80,4 +80,8 @@ metres_mono hc p q h =
 -- "A fuller tank of one substance still never draws the smaller ring, now by the equation"
 pub fuller_no_smaller : (cas p q : ℕ) → p ≤ q → (ring_of cas p).0 ≤ (ring_of cas q).0
 unfolding ring_of
-fuller_no_smaller cas p q h = let k = metres_mono (heat_of cas) p q h in omega arith
+fuller_no_smaller cas p q h = go (heat_of cas)
+  where
+    go : (heat : Option ℕ) → (ring_by p heat).0 ≤ (ring_by q heat).0
+    go None = zero-le
+    go (Some hc) = let k = metres_mono hc p q h in omega arith

@@ -1,6 +1,6 @@
 -- The ring of a blast, by Equation C-1 (document 02, A7, in whose words each definition stands).
 -- Assumes nothing.
-use Rattle.std.specs.Prelude.{ℕ, zero, suc, ◌*◌, ◌≤◌, ◌<◌, Bool, true, false, leb}
+use Rattle.std.specs.Prelude.{ℕ, zero, suc, ◌*◌, ◌≤◌, ◌<◌, Bool, true, false, leb, Option, Some, None}
 use Rattle.units.specs.declared.Miles.{Miles}
 use Rattle.combustion.specs.Heats.{heat_of}
 use Rattle.release.specs.Rates.{ceil_div}
@@ -32,6 +32,11 @@ metres_of pounds hc = first_from (enough pounds hc) (4_913 * pounds * hc) 0
 abbrev pub hundredths_of : ℕ → ℕ
 hundredths_of metres = ceil_div (metres * 100_000) 1_609_344
 
+-- the distance by a substance's heat; one without a heat draws no ring
+abbrev pub ring_by : ℕ → Option ℕ → Miles
+ring_by pounds None = record { 0 = 0 }
+ring_by pounds (Some hc) = record { 0 = hundredths_of (metres_of pounds hc) }
+
 -- the distance of a blast of so many pounds of a substance
 unfoldable pub ring_of : ℕ → ℕ → Miles
-ring_of cas pounds = record { 0 = hundredths_of (metres_of pounds (heat_of cas)) }
+ring_of cas pounds = ring_by pounds (heat_of cas)

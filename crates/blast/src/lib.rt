@@ -32,11 +32,13 @@ fn metres(pounds: u32, heat: u32) -> u64
 }
 
 // The distance of a blast, in hundredths of a mile: a mile has 1,609.344 metres.
+#[tactic(auto, using(crate::proofs::Halving::ring_is, crate::proofs::Halving::no_ring))]
 pub fn ring(cas: u32, quantity: Pounds) -> Miles
     ensures { result ≡ ring_of cas quantity.0 }
 {
-    let pounds = quantity.0;
-    let heat = combustion::heat_of(cas);
-    let distance = metres(pounds, heat);
+    let Some(heat) = combustion::heat_of(cas) else {
+        return Miles(0);
+    };
+    let distance = metres(quantity.0, heat);
     Miles(((distance * 100_000 + 1_609_343) / 1_609_344) as u16)
 }

@@ -3,137 +3,137 @@ ghost use Rattle.std.specs.Prelude.{◌≡◌};
 ghost use Rattle.combustion.specs.Heats.{heat_of};
 
 // The heat of combustion of a flammable substance by its CAS number, in kilojoules per kilogram: Exhibit C-1, in the
-// printed order; 0 for a substance that it does not list.
-pub fn heat_of(cas: u32) -> u32
+// printed order; none for a substance that it does not list.
+pub fn heat_of(cas: u32) -> Option<u32>
     ensures { result ≡ heat_of cas }
 {
     match cas {
         // Acetaldehyde
-        75070 => 25072,
+        75070 => Some(25072),
         // Acetylene
-        74862 => 48222,
+        74862 => Some(48222),
         // Bromotrifluoroethylene
-        598732 => 1967,
+        598732 => Some(1967),
         // 1,3-Butadiene
-        106990 => 44548,
+        106990 => Some(44548),
         // Butane
-        106978 => 45719,
+        106978 => Some(45719),
         // Butene
-        25167673 => 45200,
+        25167673 => Some(45200),
         // 2-Butene-cis
-        590181 => 45171,
+        590181 => Some(45171),
         // 2-Butene-trans
-        624646 => 45069,
+        624646 => Some(45069),
         // 1-Butene
-        106989 => 45292,
+        106989 => Some(45292),
         // 2-Butene
-        107017 => 45100,
+        107017 => Some(45100),
         // Carbon oxysulfide
-        463581 => 9126,
+        463581 => Some(9126),
         // Chlorine monoxide
-        7791211 => 1011,
+        7791211 => Some(1011),
         // 1-Chloropropylene
-        590216 => 23000,
+        590216 => Some(23000),
         // 2-Chloropropylene
-        557982 => 22999,
+        557982 => Some(22999),
         // Cyanogen
-        460195 => 21064,
+        460195 => Some(21064),
         // Cyclopropane
-        75194 => 46560,
+        75194 => Some(46560),
         // Dichlorosilane
-        4109960 => 8225,
+        4109960 => Some(8225),
         // Difluoroethane
-        75376 => 11484,
+        75376 => Some(11484),
         // Dimethylamine
-        124403 => 35813,
+        124403 => Some(35813),
         // 2,2-Dimethylpropane
-        463821 => 45051,
+        463821 => Some(45051),
         // Ethane
-        74840 => 47509,
+        74840 => Some(47509),
         // Ethyl acetylene
-        107006 => 45565,
+        107006 => Some(45565),
         // Ethylamine
-        75047 => 35210,
+        75047 => Some(35210),
         // Ethyl chloride
-        75003 => 19917,
+        75003 => Some(19917),
         // Ethylene
-        74851 => 47145,
+        74851 => Some(47145),
         // Ethyl ether
-        60297 => 33775,
+        60297 => Some(33775),
         // Ethyl mercaptan
-        75081 => 27948,
+        75081 => Some(27948),
         // Ethyl nitrite
-        109955 => 18000,
+        109955 => Some(18000),
         // Hydrogen
-        1333740 => 119950,
+        1333740 => Some(119950),
         // Isobutane
-        75285 => 45576,
+        75285 => Some(45576),
         // Isopentane
-        78784 => 44911,
+        78784 => Some(44911),
         // Isoprene
-        78795 => 43809,
+        78795 => Some(43809),
         // Isopropylamine
-        75310 => 36484,
+        75310 => Some(36484),
         // Isopropyl chloride
-        75296 => 23720,
+        75296 => Some(23720),
         // Methane
-        74828 => 50029,
+        74828 => Some(50029),
         // Methylamine
-        74895 => 31396,
+        74895 => Some(31396),
         // 3-Methyl-1-butene
-        563451 => 44559,
+        563451 => Some(44559),
         // 2-Methyl-1-butene
-        563462 => 44414,
+        563462 => Some(44414),
         // Methyl ether
-        115106 => 28835,
+        115106 => Some(28835),
         // Methyl formate
-        107313 => 15335,
+        107313 => Some(15335),
         // 2-Methylpropene
-        115117 => 44985,
+        115117 => Some(44985),
         // 1,3-Pentadiene
-        504609 => 43834,
+        504609 => Some(43834),
         // Pentane
-        109660 => 44697,
+        109660 => Some(44697),
         // 1-Pentene
-        109671 => 44625,
+        109671 => Some(44625),
         // 2-Pentene, (E)-
-        646048 => 44458,
+        646048 => Some(44458),
         // 2-Pentene, (Z)-
-        627203 => 44520,
+        627203 => Some(44520),
         // Propadiene
-        463490 => 46332,
+        463490 => Some(46332),
         // Propane
-        74986 => 46333,
+        74986 => Some(46333),
         // Propylene
-        115071 => 45762,
+        115071 => Some(45762),
         // Propyne
-        74997 => 46165,
+        74997 => Some(46165),
         // Silane
-        7803625 => 44307,
+        7803625 => Some(44307),
         // Tetrafluoroethylene
-        116143 => 1284,
+        116143 => Some(1284),
         // Tetramethylsilane
-        75763 => 41712,
+        75763 => Some(41712),
         // Trichlorosilane
-        10025782 => 3754,
+        10025782 => Some(3754),
         // Trifluorochloroethylene
-        79389 => 1837,
+        79389 => Some(1837),
         // Trimethylamine
-        75503 => 37978,
+        75503 => Some(37978),
         // Vinyl acetylene
-        689974 => 45357,
+        689974 => Some(45357),
         // Vinyl chloride
-        75014 => 18848,
+        75014 => Some(18848),
         // Vinyl ethyl ether
-        109922 => 32909,
+        109922 => Some(32909),
         // Vinyl fluoride
-        75025 => 2195,
+        75025 => Some(2195),
         // Vinylidene chloride
-        75354 => 10354,
+        75354 => Some(10354),
         // Vinylidene fluoride
-        75387 => 10807,
+        75387 => Some(10807),
         // Vinyl methyl ether
-        107255 => 30549,
-        _ => 0,
+        107255 => Some(30549),
+        _ => None,
     }
 }

@@ -1,7 +1,7 @@
 -- What other crates use of the exhibits instead of their text: each factor is within the limit that the paper gives it.
 -- Assumes nothing.
 use Rattle.std.specs.Prelude.{ℕ, ◌≤◌, ◌<◌, ◌≡◌, refl, ◌++◌, map, Bool, true, false, leb, ltb}
-use Rattle.std.proofs.Common.{ap, sym, ◌∙◌, leb-true, ltb-true}
+use Rattle.std.proofs.Common.{sym, ◌∙◌, leb-true, ltb-true}
 use Rattle.search.specs.Rising.{both}
 use Rattle.search.specs.Laws.{both_true}
 use Rattle.search.specs.Places.{among, every, look_up}
@@ -15,7 +15,7 @@ use Rattle.exhibits.specs.PrintedB1.{b1}
 use Rattle.exhibits.specs.PrintedB2.{b2}
 use Rattle.exhibits.specs.PrintedB4.{b4}
 use Rattle.exhibits.specs.Exhibits.{gas_cas, liquid_cas, gas_in, liquid_in, factors_of, toxic_of}
-use Rattle.exhibits.specs.Lines.{lfa_of, lfb_of, df_of, corrections_of, line_of}
+use Rattle.exhibits.specs.Lines.{lfa_of, lfb_of, df_of, corrections_of}
 use Rattle.exhibits.specs.Laws.{CellWithin, Within}
 
 -- a CAS number that is in neither exhibit
@@ -26,9 +26,9 @@ not_listed cas absent =
     look_none gas_cas gas_in cas b1 (look_up liquid_cas liquid_in cas b2 NotListed) apart.0
     ∙ look_none liquid_cas liquid_in cas b2 NotListed apart.1
 
--- the line of a CAS number that no line of either exhibit has
-pub no_line : (cas : ℕ) → Missed cas (map gas_cas b1 ++ map liquid_cas b2) → line_of NotListed ≡ line_of (toxic_of cas)
-no_line cas m = ap line_of (sym (not_listed cas (missed cas (map gas_cas b1 ++ map liquid_cas b2) m)))
+-- a CAS number that no line of either exhibit has
+pub no_line : (cas : ℕ) → Missed cas (map gas_cas b1 ++ map liquid_cas b2) → NotListed ≡ toxic_of cas
+no_line cas m = sym (not_listed cas (missed cas (map gas_cas b1 ++ map liquid_cas b2) m))
 
 -- a CAS number that is in one of them has at most eight digits
 pub listed_below : (cas : ℕ) → (toxic_of cas ≡ NotListed → ⊥) → cas < 100_000_000

@@ -4,9 +4,8 @@
 
 mod tables;
 
-ghost use Rattle.std.specs.Prelude.{◌≡◌};
-ghost use Rattle.exhibits.specs.Exhibits.{toxic_of};
-ghost use Rattle.exhibits.specs.Lines.{plume_from, cell_from, corrections_from, gas_from, liquid_from};
+// The gas of Exhibit B-1 or the liquid of Exhibit B-2, with its factors of B-4, that has a CAS number.
+pub use tables::toxic_of;
 
 // How a plume behaves in air.
 #[derive(Clone, Copy)]
@@ -74,96 +73,4 @@ pub enum Toxic {
     OfSolution(Solution),
     OutOfRange,
     NotListed,
-}
-
-// The exhibits' line of a substance, in numbers: 1 for a gas of B-1, 2 for a liquid of B-2, 3 for a solution of B-3, 4 for one
-// above the highest concentration there, 0 for none; 1 for a dense plume, in the worst case and in the alternative one; a cell of
-// B-4 as a factor, 65534 for LFB or 65535 for no data.
-#[derive(Clone, Copy)]
-pub struct Line {
-    pub kind: u8,
-    pub lfa: u32,
-    pub lfb: u32,
-    pub df: u8,
-    pub endpoint: u32,
-    pub dense: u8,
-    pub alternative: u8,
-    pub at30: u16,
-    pub at35: u16,
-    pub at40: u16,
-    pub at45: u16,
-    pub at50: u16,
-}
-
-pub fn plume_from(dense: u8) -> Plume
-    ensures { result ≡ plume_from dense }
-{
-    if dense == 1 {
-        Plume::Dense
-    } else {
-        Plume::Neutral
-    }
-}
-
-fn cell_from(code: u16) -> Cell
-    ensures { result ≡ cell_from code }
-{
-    if code == 65534 {
-        return Cell::Lfb;
-    }
-    if code == 65535 {
-        return Cell::NoData;
-    }
-    Cell::Factor(code)
-}
-
-fn corrections_in(line: Line) -> Corrections
-    ensures { result ≡ corrections_from line }
-{
-    Corrections {
-        at30: cell_from(line.at30),
-        at35: cell_from(line.at35),
-        at40: cell_from(line.at40),
-        at45: cell_from(line.at45),
-        at50: cell_from(line.at50),
-    }
-}
-
-fn gas_in(line: Line) -> Gas
-    ensures { result ≡ gas_from line }
-{
-    Gas {
-        lfb: line.lfb,
-        df: line.df,
-        endpoint: line.endpoint,
-        plume: plume_from(line.dense),
-    }
-}
-
-fn liquid_in(line: Line) -> Liquid
-    ensures { result ≡ liquid_from line }
-{
-    Liquid {
-        lfa: line.lfa,
-        lfb: line.lfb,
-        df: line.df,
-        endpoint: line.endpoint,
-        plume: plume_from(line.dense),
-        alternative: plume_from(line.alternative),
-        corrections: corrections_in(line),
-    }
-}
-
-// The gas of Exhibit B-1 or the liquid of Exhibit B-2, with its factors of B-4, that has this CAS number.
-pub fn toxic_of(cas: u32) -> Toxic
-    ensures { result ≡ toxic_of cas }
-{
-    let line = tables::line_of(cas);
-    if line.kind == 1 {
-        return Toxic::OfGas(gas_in(line));
-    }
-    if line.kind == 2 {
-        return Toxic::OfLiquid(liquid_in(line));
-    }
-    Toxic::NotListed
 }

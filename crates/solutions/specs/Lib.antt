@@ -1,3 +1,2 @@
 pub mod PrintedB3
 pub mod Solutions
-pub mod Lines
