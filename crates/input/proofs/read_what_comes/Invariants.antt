@@ -1,7 +1,7 @@
--- `input::read_all` meets its contract: it reads into what is left of the buffer, and each turn but the last leaves less.
+-- `input::read_what_comes` meets its contract: it reads into what is left of the buffer, and each turn but the last leaves less.
 -- Assumes nothing.
 use Rattle.std.proofs.Common.{length, ◌-◌, ◌≡◌, ◌≤◌}
-use Rattle.input.proofs.read_all.Given as goal
+use Rattle.input.proofs.read_what_comes.Given as goal
 
 abbrev pub invariant-loop-done : goal.invariant-loop-done
 invariant-loop-done g l = (l.done ≤ length l.buffer) × (length l.buffer ≡ length l.initial.buffer)
