@@ -1,5 +1,5 @@
--- `input::read_what_comes` reads into what is left of the buffer, and each turn but the last leaves less; what stands in the buffer so
--- far is what the reader has given.
+-- `input::read_what_comes` meets its contract: it reads into what is left of the buffer, and each turn but the last leaves less; what
+-- stands in the buffer so far is what the reader has given.
 -- Assumes nothing.
 use Rattle.std.proofs.Common.{length, take, ◌-◌, ◌≡◌, ◌≤◌}
 use Rattle.std.specs.Io.KnownBytes.{Consumes}
