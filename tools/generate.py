@@ -828,11 +828,11 @@ def dense_rows(tables):
     ])
 
 
-def lines_constant(number, table, what, field, rates):
-    """A table of rates down and two columns across; the field of the name holds the rates that find its rows."""
+def lines_constant(number, table, what, rates):
+    """A table of rates down and two columns across, by the rates that find its rows."""
     return rt_constant(
         f"Table {number}: {what}, and the entries in use.", f"TABLE_{number}", f"Lines<{len(table)}>", "Lines",
-        {field: (64, rates), "rural": (16, column_in_use([rural for _, rural, _ in table])),
+        {"rates": (64, rates), "rural": (16, column_in_use([rural for _, rural, _ in table])),
          "urban": (16, column_in_use([urban for _, _, urban in table]))})
 
 
@@ -840,7 +840,7 @@ def chemical_constants(tables):
     constants = []
     for number, table in tables.items():
         rates = [rate for rate, _, _ in table]
-        constants.append(lines_constant(number, table, "the largest rate that reads each row, the last row's its own", "upto",
+        constants.append(lines_constant(number, table, "the largest rate that reads each row, the last row's its own",
                                         rate_cuts(rates) + [1000 * rates[-1]]))
     return rt_file(sources_of(tables), constants, uses=["use crate::Lines;"])
 
@@ -858,9 +858,9 @@ def likely_dense_columns(tables):
 
 
 def likely_chemical_constants(tables):
-    constants = [lines_constant(number, table, "the rates of the rows", "rates", [1000 * rate for rate, _, _ in table])
+    constants = [lines_constant(number, table, "the rates of the rows", [1000 * rate for rate, _, _ in table])
                  for number, table in tables.items()]
-    return rt_file(sources_of(tables), constants, uses=["use crate::Lines;"])
+    return rt_file(sources_of(tables), constants, uses=["use dispersion::Lines;"])
 
 
 def heat_lines(flammables):

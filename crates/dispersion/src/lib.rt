@@ -26,30 +26,38 @@ pub fn hundredths(distance: Miles) -> u16
     distance.0
 }
 
-// One of Tables 9 to 12, with so many rows: the largest rate that reads each row in thousandths of a pound per minute, the last row's
-// its own, and the entries in use of its two columns in hundredths of a mile.
-struct Lines<const ROWS: usize> {
-    upto: [u64; ROWS],
-    rural: [u16; ROWS],
-    urban: [u16; ROWS],
+// A table of rates down and two columns across, with so many rows: a rate for each row in thousandths of a pound per minute, and the
+// entries in use of its two columns in hundredths of a mile. In Tables 9 to 12 the rate is the largest that reads the row, the last row's
+// its own; in 22 to 25, which the likely scenarios read, it is the row's.
+pub struct Lines<const ROWS: usize> {
+    pub rates: [u64; ROWS],
+    pub rural: [u16; ROWS],
+    pub urban: [u16; ROWS],
 }
 
 impl<const ROWS: usize> Lines<ROWS> {
-    // What the table answers on the card's ground at a rate; above the last row, its entry is read. At each table of its own, so that
-    // the walk over the rates becomes comparisons with numbers.
+    // The column of the card's ground.
+    #[inline(always)]
+    pub fn column(&self, topography: Ground) -> &[u16; ROWS]
+        ensures { result.now ≡ column_of topography self.now.rural self.now.urban }
+    {
+        match topography {
+            Ground::Rural => &self.rural,
+            Ground::Urban => &self.urban,
+        }
+    }
+
+    // What one of Tables 9 to 12 answers on the card's ground at a rate; above the last row, its entry is read. At each table of its own,
+    // so that the walk over the rates becomes comparisons with numbers.
     #[inline(always)]
     #[tactic(auto, unfolding(crate::specs::Rows::row_read, rules::specs::Rules::last_of))]
     fn read(&self, topography: Ground, rate: u64) -> Option<Miles>
         requires { 0 < ROWS }
-        ensures { result ≡ row_read self.now.upto (column_of topography self.now.rural self.now.urban) rate }
+        ensures { result ≡ row_read self.now.rates (column_of topography self.now.rural self.now.urban) rate }
     {
         let last = ROWS - 1;
-        let row = search::first_at_least(&self.upto, rate).min(last);
-        let entry = match topography {
-            Ground::Rural => self.rural[row],
-            Ground::Urban => self.urban[row],
-        };
-        rules::answer(self.upto[last], rate, entry)
+        let row = search::first_at_least(&self.rates, rate).min(last);
+        rules::answer(self.rates[last], rate, self.column(topography)[row])
     }
 }
 

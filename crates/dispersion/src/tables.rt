@@ -4,7 +4,7 @@ use crate::Lines;
 
 // Table 9: the largest rate that reads each row, the last row's its own, and the entries in use.
 pub const TABLE_9: Lines<50> = Lines {
-    upto: [
+    rates: [
         1499, 3499, 7499, 12499, 17499, 24999, 34999, 44999, 54999, 64999, 74999, 84999, 94999,
         124999, 174999, 224999, 274999, 349999, 449999, 549999, 649999, 724999, 774999, 849999,
         949999, 1249999, 1749999, 2249999, 2749999, 3499999, 4499999, 5499999, 6499999, 7249999,
@@ -25,7 +25,7 @@ pub const TABLE_9: Lines<50> = Lines {
 
 // Table 10: the largest rate that reads each row, the last row's its own, and the entries in use.
 pub const TABLE_10: Lines<50> = Lines {
-    upto: [
+    rates: [
         1499, 3499, 7499, 12499, 17499, 24999, 34999, 44999, 54999, 64999, 74999, 84999, 94999,
         124999, 174999, 224999, 274999, 349999, 449999, 549999, 649999, 724999, 774999, 849999,
         949999, 1249999, 1749999, 2249999, 2749999, 3499999, 4499999, 5499999, 6499999, 7249999,
@@ -46,7 +46,7 @@ pub const TABLE_10: Lines<50> = Lines {
 
 // Table 11: the largest rate that reads each row, the last row's its own, and the entries in use.
 pub const TABLE_11: Lines<44> = Lines {
-    upto: [
+    rates: [
         1499, 3499, 7499, 12499, 17499, 24999, 34999, 44999, 54999, 64999, 74999, 84999, 94999,
         124999, 174999, 224999, 274999, 349999, 449999, 549999, 649999, 724999, 774999, 849999,
         949999, 1249999, 1749999, 2249999, 2749999, 3499999, 4499999, 5499999, 6499999, 7249999,
@@ -67,7 +67,7 @@ pub const TABLE_11: Lines<44> = Lines {
 
 // Table 12: the largest rate that reads each row, the last row's its own, and the entries in use.
 pub const TABLE_12: Lines<44> = Lines {
-    upto: [
+    rates: [
         1499, 3499, 7499, 12499, 17499, 24999, 34999, 44999, 54999, 64999, 74999, 84999, 94999,
         124999, 174999, 224999, 274999, 349999, 449999, 549999, 649999, 724999, 774999, 849999,
         949999, 1249999, 1749999, 2249999, 2749999, 3499999, 4499999, 5499999, 6499999, 7249999,

@@ -7,7 +7,7 @@ ghost use Rattle.form.specs.Form.{state_of, ground_of, held_of, heat_fits, shape
 use dispersion::Ground;
 use fields::Fields;
 use refusals::Refusal;
-use release::{Building, Containment, Dike, ShedWithDoors};
+use release::{Building, Containment, Dike};
 use which_table::State;
 
 // How a toxic card's vessel stands.
@@ -77,7 +77,7 @@ fn held_of(byte: u8, area: u32, wall: u16) -> Option<Containment>
     match byte {
         0 => open_of(area),
         2 => Some(Containment::Building(Building { floor: feet })),
-        3 => Some(Containment::ShedWithDoors(ShedWithDoors { floor: feet })),
+        3 => Some(Containment::ShedWithDoors(Building { floor: feet })),
         _ => None,
     }
 }

@@ -10,7 +10,7 @@ ghost use Rattle.dispersion.specs.declared.Ground.{Ground};
 ghost use Rattle.interpolation.specs.Interpolation.{likely_at};
 ghost use Rattle.likely_tables.specs.LikelyTables.{range_read, likely_reading};
 
-use dispersion::Ground;
+use dispersion::{Ground, Lines};
 use interpolation::Likely;
 use tables::{TABLE_22, TABLE_23, TABLE_24, TABLE_25};
 use units::{Miles, PoundsPerMinute};
@@ -23,26 +23,12 @@ fn range_read(reading: Option<Miles>) -> Option<Likely>
     Some(interpolation::entry(dispersion::hundredths(distance)))
 }
 
-// One of Tables 22 to 25, with so many rows: their rates in thousandths of a pound per minute, and the entries in use of its two
-// columns in hundredths of a mile.
-struct Lines<const ROWS: usize> {
-    rates: [u64; ROWS],
-    rural: [u16; ROWS],
-    urban: [u16; ROWS],
-}
-
-impl<const ROWS: usize> Lines<ROWS> {
-    // What the table answers on the card's ground at a rate.
-    fn read(&self, topography: Ground, rate: u64) -> Option<Likely>
-        requires { 0 < ROWS }
-        ensures { result ≡ likely_at self.now.rates (λ i. get_or (column_of topography self.now.rural self.now.urban) i 0) rate }
-    {
-        let entries = match topography {
-            Ground::Rural => &self.rural,
-            Ground::Urban => &self.urban,
-        };
-        interpolation::read(&self.rates, entries, rate)
-    }
+// What one of Tables 22 to 25 answers on the card's ground at a rate.
+fn row_read<const ROWS: usize>(table: &Lines<ROWS>, topography: Ground, rate: u64) -> Option<Likely>
+    requires { 0 < ROWS }
+    ensures { result ≡ likely_at table.now.rates (λ i. get_or (column_of topography table.now.rural table.now.urban) i 0) rate }
+{
+    interpolation::read(&table.rates, table.column(topography), rate)
 }
 
 // What a table answers a likely scenario at a rate and an endpoint in hundred-thousandths of mg/L, on the card's ground.
@@ -53,10 +39,10 @@ pub fn read(table: u8, topography: Ground, rate: PoundsPerMinute, endpoint: u32)
     match table {
         0..=17 => range_read(likely_neutral::read(table, thousandths, endpoint)),
         18..=21 => likely_dense::read(table, thousandths, endpoint),
-        22 => TABLE_22.read(topography, thousandths),
-        23 => TABLE_23.read(topography, thousandths),
-        24 => TABLE_24.read(topography, thousandths),
-        25 => TABLE_25.read(topography, thousandths),
+        22 => row_read(&TABLE_22, topography, thousandths),
+        23 => row_read(&TABLE_23, topography, thousandths),
+        24 => row_read(&TABLE_24, topography, thousandths),
+        25 => row_read(&TABLE_25, topography, thousandths),
         _ => None,
     }
 }

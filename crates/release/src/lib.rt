@@ -19,19 +19,14 @@ pub struct Building {
     pub floor: SquareFeet,
 }
 
-// A shed with doors, document 02's own term: a building whose walls hold no vapor back, and its floor.
-#[derive(Clone, Copy)]
-pub struct ShedWithDoors {
-    pub floor: SquareFeet,
-}
-
-// What holds a spill: nothing, a dike, a building or a shed with doors.
+// What holds a spill: nothing, a dike, a building or a shed with doors. A shed with doors, document 02's own term, is a building whose
+// walls hold no vapor back.
 #[derive(Clone, Copy)]
 pub enum Containment {
     Open,
     Dike(Dike),
     Building(Building),
-    ShedWithDoors(ShedWithDoors),
+    ShedWithDoors(Building),
 }
 
 // Pounds, from a card's whole number.

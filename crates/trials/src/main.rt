@@ -3,7 +3,7 @@
 // register. A room of 65,535 asks for the listing; any other is the length of the answer buffer of a call.
 #![tactic(auto)]
 
-ghost use Rattle.std.specs.Prelude.{◌≡◌, ◌≤◌, ◌<◌, length};
+ghost use Rattle.std.specs.Prelude.{◌≤◌, ◌<◌, length};
 
 use refusals::SentBack;
 use std::io::Read;
@@ -79,28 +79,11 @@ fn run_all(out: &impl Print, cases: &[u8], text: &mut [u8])
     }
 }
 
-// Reads until the buffer is full, the input ends or a read fails, and answers how many bytes came.
-fn read_full(reader: &mut impl Read, buffer: &mut [u8]) -> usize
-    ensures { result ≤ length buffer.new }
-{
-    let mut done = 0usize;
-    while done < buffer.len() {
-        let Ok(more) = reader.read(&mut buffer[done..]) else {
-            return done;
-        };
-        if more == 0 {
-            return done;
-        }
-        done += more;
-    }
-    done
-}
-
-// The cases stop where the input or the buffer ends.
+// The cases stop where the input or the buffer ends, or where a read fails: those that came before it are run.
 fn read_and_run(out: &impl Print, reader: &mut impl Read, cases: &mut [u8], text: &mut [u8])
     requires { length cases.old ≤ 262_144 }
 {
-    let n = read_full(reader, cases);
+    let (n, _) = input::read_what_comes(reader, cases);
     run_all(out, &cases[..n], text);
 }
 
