@@ -10,9 +10,7 @@ use Rattle.decimal.proofs.Laws.{padded_all, digits_all, digits_some, digits_shor
 use Rattle.pieces.specs.Pieces.{closed, Without, EachWithout}
 use Rattle.pieces.proofs.Laws.{pieces_closed}
 use Rattle.fields.specs.declared.Fields.{Fields}
-use Rattle.numerals.specs.declared.Form.{Form}
-use Rattle.numerals.specs.declared.Form.TheVariants as form
-use Rattle.numerals.specs.Numerals.{read_on, cas_in, heat_in, value_in, most_of, Within}
+use Rattle.numerals.specs.Numerals.{Form, Cas, Temperature, read_on, cas_in, heat_in, value_in, most_of, Within}
 use Rattle.numerals.proofs.Laws.{within, digits_are, value_written, digits_without, decimal_written, grouped, groups, heat_plus, heat_minus}
 use Rattle.comma.specs.Line.{fields_in, and, next, remark, of_one_byte, of_two_bytes, of_four_bytes, tenths_form, lasts_in, amounts_in, codes_in, longest_line, line_of}
 use Rattle.comma.specs.Text.{lines_of, Cards, cards, bad, then, cards_from, cards_in}
@@ -83,12 +81,12 @@ heat_cases P heat up down = go (lt_or_ge heat 32_768)
 
 -- what holds of the form and the text of a concentration, and of those of a temperature, holds of the field in every state
 pub tenths_cases : (P : Form → List ℕ → Type 0) (state heat : ℕ) → (state ≡ 5 → P of_two_bytes (digits heat))
-    → ((state ≡ 5 → ⊥) → P form.Temperature (heat_text heat)) → P (tenths_form state) (tenths_text state heat)
+    → ((state ≡ 5 → ⊥) → P Temperature (heat_text heat)) → P (tenths_form state) (tenths_text state heat)
 unfolding tenths_form tenths_text
 tenths_cases P state heat solution other = go (eqb state 5) refl
   where
     go : (t : Bool) → eqb state 5 ≡ t
-        → P (elim t as (λ _. Form) [ true ↦ of_two_bytes | false ↦ form.Temperature ]) (elim t as (λ _. List ℕ) [ true ↦ digits heat | false ↦ heat_text heat ])
+        → P (elim t as (λ _. Form) [ true ↦ of_two_bytes | false ↦ Temperature ]) (elim t as (λ _. List ℕ) [ true ↦ digits heat | false ↦ heat_text heat ])
     go true e = solution (eqb-true state 5 e)
     go false e = other (eqb-false state 5 e)
 
@@ -134,17 +132,17 @@ module _ (x : ℕ) (low : x < 45) where
 -- ---- each text is read as its number
 
 -- "CAS number with hyphens"
-pub cas_written : (cas : ℕ) → cas < 2 ^ 32 → value_in form.Cas (cas_text cas) ≡ Some cas
+pub cas_written : (cas : ℕ) → cas < 2 ^ 32 → value_in Cas (cas_text cas) ≡ Some cas
 cas_written cas h =
-    value_written form.Cas (cas_text cas) (cas_without 32 (omega arith) cas)
+    value_written Cas (cas_text cas) (cas_without 32 (omega arith) cas)
     ∙ cas_digits_lem cas
     ∙ digits_are 4_294_967_295 0 (cas_digits cas) (cas_all cas) (rw (cas_read cas) (omega arith))
     ∙ ap Some (cas_read cas)
 
 -- "temperature in tenths"
-pub heat_written : (heat : ℕ) → heat < 2 ^ 16 → value_in form.Temperature (heat_text heat) ≡ Some heat
+pub heat_written : (heat : ℕ) → heat < 2 ^ 16 → value_in Temperature (heat_text heat) ≡ Some heat
 heat_written heat h =
-    value_written form.Temperature (heat_text heat) (heat_without 32 (omega arith) heat)
+    value_written Temperature (heat_text heat) (heat_without 32 (omega arith) heat)
     ∙ heat_cases (λ text. heat_in text ≡ Some heat) heat
     (λ up. heat_plus heat (omega arith))
     (λ down.
@@ -298,7 +296,7 @@ codes_fit fields =
     next_fits of_one_byte r₁ _ (λ state r₂ h₂.
     next_fits of_one_byte r₂ _ (λ topography r₃ h₃.
     next_fits of_one_byte r₃ _ (λ containment r₄ h₄.
-    next_fits form.Cas r₄ _ (λ cas r₅ h₅.
+    next_fits Cas r₄ _ (λ cas r₅ h₅.
     next_fits of_four_bytes r₅ _ (λ pounds r₆ h₆.
     next_fits of_four_bytes r₆ _ (λ area r₇ h₇.
     next_fits of_two_bytes r₇ _ (λ wall r₈ h₈.

@@ -33,7 +33,7 @@ fn put_answer(out: &mut [u8], answer: Result<LikelyScenario, Refusal>) -> usize
 {
     match answer {
         Ok(scenario) => likely_line::put_scenario(out, 0, scenario),
-        Err(refusal) => closing::put_refused(out, 0, refusals::number(refusal), 0),
+        Err(refusal) => closing::put_refused(out, 0, u8::from(refusal), 0),
     }
 }
 
@@ -44,7 +44,7 @@ fn put_question(out: &mut [u8], question: Option<Question>) -> usize
     ensures upper_bound { result ≤ 128 }
 {
     let Some(asked) = question else {
-        return closing::put_refused(out, 0, refusals::number(Refusal::Line), 1);
+        return closing::put_refused(out, 0, u8::from(Refusal::Line), 1);
     };
     let card = card_of(asked.card);
     let answer = likely_scenario::likely_of(&card, asked.rate as u64, asked.minutes);

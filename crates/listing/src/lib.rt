@@ -54,7 +54,7 @@ fn put_listing(register: &[u8], out: &mut [u8]) -> usize
     match register::outcome_of(register, header::ENOUGH) {
         Ok(_) => put_accepted(register, out),
         Err(SentBack { refusal, place }) => {
-            closing::put_refused(out, 0, refusals::number(refusal), place)
+            closing::put_refused(out, 0, u8::from(refusal), place)
         }
     }
 }

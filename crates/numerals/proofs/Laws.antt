@@ -13,10 +13,8 @@ use Rattle.buffer.specs.Numbers.{byte_at}
 use Rattle.decimal.specs.Decimal.{digits, read_from, AllDigits}
 use Rattle.decimal.proofs.Laws.{digits_read, digits_all, digits_some}
 use Rattle.pieces.specs.Pieces.{Without}
-use Rattle.numerals.specs.declared.Form.{Form}
-use Rattle.numerals.specs.declared.Form.TheVariants as form
 use Rattle.spaces.specs.Spaces.{skip, keep, chop, bare}
-use Rattle.numerals.specs.Numerals.{is_digit, numbered, read_on, number_in, hyphened, unhyphened, cas_in, minus, heat_in, value_of, value_in, most_of, Within}
+use Rattle.numerals.specs.Numerals.{Form, Decimal, Cas, Temperature, is_digit, numbered, read_on, number_in, hyphened, unhyphened, cas_in, minus, heat_in, value_of, value_in, most_of, Within}
 
 -- ---- no number is above what its field may hold
 
@@ -71,9 +69,9 @@ heat_within (b ∷ rest) = go (eqb b 45)
     go false = within_wider 32_767 65_535 (number_in 32_767 (b ∷ rest)) (omega arith) (number_within 32_767 (b ∷ rest))
 
 value_within : (f : Form) (text : List ℕ) → Within (most_of f) (value_of f text)
-value_within (form.Decimal most) text = number_within most text
-value_within form.Cas text = cas_within text
-value_within form.Temperature text = heat_within text
+value_within (Decimal most) text = number_within most text
+value_within Cas text = cas_within text
+value_within Temperature text = heat_within text
 
 -- "too wide for its bytes" is never taken: what is read of a field is at most what the field may hold
 pub within : (f : Form) (field : List ℕ) → Within (most_of f) (value_in f field)
@@ -143,9 +141,9 @@ digits_without x (b ∷ rest) h all =
     (λ (e : b ≡ x). omega arith, digits_without x rest h all.2)
 
 -- a field with a number as it is written is that number
-pub decimal_written : (most n : ℕ) → n ≤ most → value_in (form.Decimal most) (digits n) ≡ Some n
+pub decimal_written : (most n : ℕ) → n ≤ most → value_in (Decimal most) (digits n) ≡ Some n
 decimal_written most n h =
-    value_written (form.Decimal most) (digits n) (digits_without 32 (digits n) (omega arith) (digits_all n))
+    value_written (Decimal most) (digits n) (digits_without 32 (digits n) (omega arith) (digits_all n))
     ∙ number_written most n h
 
 -- ---- a CAS number by its three groups

@@ -7,8 +7,6 @@ use Rattle.search.specs.Places.{every}
 use Rattle.buffer.specs.Numbers.{byte_at}
 use Rattle.decimal.specs.Decimal.{read_from}
 use Rattle.spaces.specs.Spaces.{bare}
-use Rattle.numerals.specs.declared.Form.{Form}
-use Rattle.numerals.specs.declared.Form.TheVariants as form
 
 -- ---- "decimal"
 
@@ -61,10 +59,16 @@ heat_in (b ∷ rest) = elim (eqb b 45) [ true ↦ minus (number_in 32_768 rest) 
 
 -- ---- a field by what it is to hold
 
+-- "decimal but for .. CAS number with hyphens .., temperature in tenths": a decimal number of at most so much, or one of the two
+pub data Form : Type 0 where
+  Decimal : ℕ → Form
+  Cas : Form
+  Temperature : Form
+
 abbrev pub value_of : Form → List ℕ → Option ℕ
-value_of (form.Decimal most) text = number_in most text
-value_of form.Cas text = cas_in text
-value_of form.Temperature text = heat_in text
+value_of (Decimal most) text = number_in most text
+value_of Cas text = cas_in text
+value_of Temperature text = heat_in text
 
 -- the number of a field, with spaces around it or none
 unfoldable pub value_in : Form → List ℕ → Option ℕ
@@ -72,9 +76,9 @@ value_in f field = value_of f (bare field)
 
 -- the largest number that it may be
 abbrev pub most_of : Form → ℕ
-most_of (form.Decimal most) = most
-most_of form.Cas = 4_294_967_295
-most_of form.Temperature = 65_535
+most_of (Decimal most) = most
+most_of Cas = 4_294_967_295
+most_of Temperature = 65_535
 
 abbrev pub Within : ℕ → Option ℕ → Type 0
 Within most (Some n) = n ≤ most

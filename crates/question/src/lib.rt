@@ -5,7 +5,7 @@ ghost use Rattle.std.specs.Prelude.{◌≡◌};
 ghost use Rattle.question.specs.Question.{asked_in, question_in};
 
 use fields::Fields;
-use numerals::Form;
+use read_number::FourBytes;
 
 // What is asked: a rate in thousandths of a pound per minute, whole minutes and a card's fields.
 #[derive(Clone, Copy)]
@@ -19,12 +19,8 @@ pub struct Question {
 fn asked_in(line: &[u8]) -> Option<Question>
     ensures { result ≡ asked_in line.now }
 {
-    let (rate, second) = read_field::take_field(line, 0, Form::Decimal(numerals::FOUR_BYTES))?;
-    let (minutes, third) = read_field::take_field(
-        line,
-        second,
-        Form::Decimal(numerals::FOUR_BYTES),
-    )?;
+    let (rate, second) = read_field::take_field::<FourBytes>(line, 0)?;
+    let (minutes, third) = read_field::take_field::<FourBytes>(line, second)?;
     let card = read_line::line_of(&line[third..])?;
     Some(Question {
         rate,

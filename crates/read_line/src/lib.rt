@@ -7,22 +7,19 @@ ghost use Rattle.comma.specs.Stages.{CodesTold, AmountsTold};
 
 use comma::{Amounts, Codes};
 use fields::Fields;
-use numerals::Form;
+use read_number::{Cas, FourBytes, OneByte, TwoBytes};
 
 // "A line is at most 200 bytes"
 const LONGEST: usize = 200;
-
-// What fits one byte.
-const ONE_BYTE: u32 = 255;
 
 // Kind, state, ground and containment, from the start of the line, and where the next field starts.
 fn codes_of(line: &[u8]) -> Option<(Codes, usize)>
     ensures { CodesTold line.now result }
 {
-    let (kind, second) = read_field::take_field(line, 0, Form::Decimal(ONE_BYTE))?;
-    let (state, third) = read_field::take_field(line, second, Form::Decimal(ONE_BYTE))?;
-    let (topography, fourth) = read_field::take_field(line, third, Form::Decimal(ONE_BYTE))?;
-    let (containment, next) = read_field::take_field(line, fourth, Form::Decimal(ONE_BYTE))?;
+    let (kind, second) = read_field::take_field::<OneByte>(line, 0)?;
+    let (state, third) = read_field::take_field::<OneByte>(line, second)?;
+    let (topography, fourth) = read_field::take_field::<OneByte>(line, third)?;
+    let (containment, next) = read_field::take_field::<OneByte>(line, fourth)?;
     let codes = Codes {
         kind: kind as u8,
         state: state as u8,
@@ -36,13 +33,9 @@ fn codes_of(line: &[u8]) -> Option<(Codes, usize)>
 fn amounts_at(line: &[u8], at: usize) -> Option<(Amounts, usize)>
     ensures { AmountsTold line.now at result }
 {
-    let (cas, second) = read_field::take_field(line, at, Form::Cas)?;
-    let (pounds, third) = read_field::take_field(
-        line,
-        second,
-        Form::Decimal(numerals::FOUR_BYTES),
-    )?;
-    let (area, next) = read_field::take_field(line, third, Form::Decimal(numerals::FOUR_BYTES))?;
+    let (cas, second) = read_field::take_field::<Cas>(line, at)?;
+    let (pounds, third) = read_field::take_field::<FourBytes>(line, second)?;
+    let (area, next) = read_field::take_field::<FourBytes>(line, third)?;
     Some((Amounts { cas, pounds, area }, next))
 }
 
@@ -50,14 +43,9 @@ fn amounts_at(line: &[u8], at: usize) -> Option<(Amounts, usize)>
 fn lasts_at(line: &[u8], at: usize, codes: Codes, amounts: Amounts) -> Option<Fields>
     ensures { result ≡ lasts_in codes amounts (fields_in (drop at line.now)) }
 {
-    let (wall, second) = read_field::take_field(line, at, Form::Decimal(read_field::TWO_BYTES))?;
-    let tenths = read_field::tenths_form(codes.state);
-    let (heat, third) = read_field::take_field(line, second, tenths)?;
-    let (number, remark) = read_field::take_field(
-        line,
-        third,
-        Form::Decimal(numerals::FOUR_BYTES),
-    )?;
+    let (wall, second) = read_field::take_field::<TwoBytes>(line, at)?;
+    let (heat, third) = read_field::take_tenths(line, second, codes.state)?;
+    let (number, remark) = read_field::take_field::<FourBytes>(line, third)?;
     if pieces::end_of(line, remark, b',') < line.len() {
         return None;
     }

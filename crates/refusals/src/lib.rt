@@ -7,24 +7,24 @@ ghost use Rattle.refusals.specs.Numbers.{number_of, refused_at};
 // Document 01's reasons 1 to 11, in its order, and those of document 02 behind them.
 #[derive(Clone, Copy)]
 pub enum Refusal {
-    Length,
-    Version,
-    Count,
-    Buffer,
-    Number,
-    Form,
-    Unlisted,
-    Quantity,
-    Area,
-    Mismatch,
-    Beyond,
-    Line,
-    Room,
-    Wall,
-    Temperature,
-    Concentration,
-    SuppliedRate,
-    SuppliedDuration,
+    Length = 1,
+    Version = 2,
+    Count = 3,
+    Buffer = 4,
+    Number = 5,
+    Form = 6,
+    Unlisted = 7,
+    Quantity = 8,
+    Area = 9,
+    Mismatch = 10,
+    Beyond = 11,
+    Line = 12,
+    Room = 13,
+    Wall = 14,
+    Temperature = 15,
+    Concentration = 16,
+    SuppliedRate = 17,
+    SuppliedDuration = 18,
 }
 
 // A refusal and its place: a card's, counted from 0, or a line's, counted from 1.
@@ -44,27 +44,10 @@ impl From<Refusal> for SentBack<u32> {
 }
 
 // The number of a refusal.
-pub fn number(refusal: Refusal) -> u8
-    ensures { result ≡ number_of refusal }
-{
-    match refusal {
-        Refusal::Length => 1,
-        Refusal::Version => 2,
-        Refusal::Count => 3,
-        Refusal::Buffer => 4,
-        Refusal::Number => 5,
-        Refusal::Form => 6,
-        Refusal::Unlisted => 7,
-        Refusal::Quantity => 8,
-        Refusal::Area => 9,
-        Refusal::Mismatch => 10,
-        Refusal::Beyond => 11,
-        Refusal::Line => 12,
-        Refusal::Room => 13,
-        Refusal::Wall => 14,
-        Refusal::Temperature => 15,
-        Refusal::Concentration => 16,
-        Refusal::SuppliedRate => 17,
-        Refusal::SuppliedDuration => 18,
+impl From<Refusal> for u8 {
+    ghost from_gives = { λ r n. n ≡ number_of r };
+
+    fn from(refusal: Refusal) -> u8 {
+        refusal as u8
     }
 }

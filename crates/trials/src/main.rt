@@ -34,7 +34,7 @@ fn fill(out: &impl Print, register: &[u8], room: usize, text: &mut [u8]) {
         return;
     };
     let mut line = [0u8; 64];
-    let end = closing::put_refused(&mut line, 0, refusals::number(refusal), place);
+    let end = closing::put_refused(&mut line, 0, u8::from(refusal), place);
     put(out, &line[..end]);
 }
 

@@ -23,7 +23,7 @@ fn word_of(leader: Option<Leader>) -> u64
 pub fn code_of(refusal: Refusal, place: u32) -> u64
     ensures { result ≡ refusal_code refusal place }
 {
-    let number = refusals::number(refusal) as u64;
+    let number = u8::from(refusal) as u64;
     number * 4_294_967_296 + place as u64
 }
 
@@ -51,7 +51,7 @@ pub fn conversion_code(converted: Result<usize, SentBack<usize>>) -> u64
 {
     match converted {
         Ok(_) => 0,
-        Err(sent) => refusals::number(sent.refusal) as u64,
+        Err(sent) => u8::from(sent.refusal) as u64,
     }
 }
 

@@ -3,7 +3,7 @@
 use Rattle.std.specs.Prelude.{ℕ, ◌≡◌, List, Option, drop, option_and_then}
 use Rattle.std.proofs.Common.{arith}
 use Rattle.fields.specs.declared.Fields.{Fields}
-use Rattle.numerals.specs.declared.Form.{Form}
+use Rattle.numerals.specs.Numerals.{Form}
 use Rattle.std.proofs.lemmas.Grind.{common_steps}
 use Rattle.comma.specs.Line.{fields_in, next, codes_in}
 use Rattle.comma.specs.Stages.{taken_at}
