@@ -1,11 +1,13 @@
 -- What callers use of a register's cards and of its header.
 -- Assumes nothing.
-use Rattle.std.specs.Prelude.{ℕ, zero, suc, ◌-◌, ◌*◌, ◌≤◌, ◌≡◌, refl, List, [], ◌∷◌, length, take, drop, Result, Ok, Err}
+use Rattle.std.specs.Prelude.{ℕ, zero, suc, ◌+◌, ◌*◌, ◌≤◌, ◌≡◌, refl, List, [], ◌∷◌, length, take, drop, Result, Ok, Err}
+use Rattle.std.specs.List.{concat}
 use Rattle.farthest.specs.declared.Leaders.{Leaders}
 use Rattle.refusals.specs.declared.SentBack.{SentBack}
 use Rattle.refusals.specs.Numbers.{refused_at}
-use Rattle.std.proofs.Common.{arith, ◌∙◌, sym, subst, length-append, length-take, length-drop, take_all}
+use Rattle.std.proofs.Common.{arith, ◌∙◌, sym, subst, ap₂, length-append}
 use Rattle.std.proofs.Math.Path.{ap}
+use Rattle.buffer.specs.Numbers.{two_at}
 use Rattle.search.specs.Laws.{clash}
 use Rattle.refusals.specs.declared.Refusal.{Refusal}
 use Rattle.card.specs.declared.Answer.{Answer}
@@ -13,6 +15,7 @@ use Rattle.card.specs.Answers.{answer_of}
 use Rattle.encode.specs.Bytes.{answer_bytes}
 use Rattle.encode.specs.Laws.{length_answer}
 use Rattle.header.specs.Header.{header_of, HeaderFits, Fitting}
+use Rattle.header.proofs.Ends.{header_count}
 use Rattle.cards.specs.Register.{Cards, answers, sent_back, joined, then, cards_from, cards_of, result_of, after_header, outcome_of, bytes_of, filled_with, filled_after, buffer_of}
 
 -- where one answer more in front gives cards that are all answered, the cards behind it are
@@ -44,41 +47,40 @@ bytes_length (a ∷ xs) =
     let z : length (bytes_of xs) ≡ 16 * length xs = bytes_length xs in
     omega (arith, length-append (answer_bytes a) (bytes_of xs), length_answer a)
 
--- what stands behind the header, as the code takes it
-pub behind_header : (bytes : List ℕ) → take (length bytes - 7) (drop 7 bytes) ≡ drop 7 bytes
-behind_header bytes = take_all (length bytes - 7) (drop 7 bytes) (omega (arith, length-drop 7 bytes))
-
--- the whole call, from its header on
+-- the whole call, from its header on: the cards behind a good one are as many as it says, and their bytes stand behind it
 module _ (bytes : List ℕ) (room : ℕ) (h : Result ℕ Refusal) (e : h ≡ header_of bytes room) where
   pub header_refused : (r : Refusal) → h ≡ Err r → Err (refused_at r 0) ≡ outcome_of bytes room
   unfolding outcome_of
   header_refused r q = ap (λ y. after_header y bytes) (sym q ∙ e)
 
-  pub header_good : (n : ℕ) (r : Result Leaders (SentBack ℕ)) → h ≡ Ok n → r ≡ result_of (cards_from n 0 0 (take (length bytes - 7) (drop 7 bytes))) → r ≡ outcome_of bytes room
-  unfolding outcome_of cards_of
-  header_good n r q g =
-      g ∙ (ap (λ y. result_of (cards_from n 0 0 y)) (behind_header bytes) ∙ ap (λ y. after_header y bytes) (sym q ∙ e))
+  module _ (f : HeaderFits bytes room h) (n : ℕ) (q : h ≡ Ok n) where
+    fits : Fitting bytes room n
+    fits = subst (HeaderFits bytes room) q f
 
-  pub header_fitting : (n : ℕ) → HeaderFits bytes room h → h ≡ Ok n → Fitting bytes room n
-  header_fitting n f q = subst (HeaderFits bytes room) q f
+    count_is : n ≡ two_at bytes 5
+    count_is = header_count bytes room n (sym e ∙ q)
 
--- what a good header says of the room: for the calls behind it
-module _ (bytes : List ℕ) (room : ℕ) (h : Result ℕ Refusal) (e : h ≡ header_of bytes room) (f : HeaderFits bytes room h) (n : ℕ) (q : h ≡ Ok n) where
-  pub good_header : 7 ≤ length bytes
-  good_header = let fits = header_fitting bytes room h e n f q in omega arith
+    pub good_header : length bytes ≡ 7 + 24 * two_at bytes 5
+    good_header = omega (arith, fits.register, count_is)
 
-  pub good_count : n ≤ 2_000
-  good_count = (header_fitting bytes room h e n f q).cards
+    module _ (cards : List (List ℕ)) (k : length cards ≡ two_at bytes 5) where
+      pub good_count : length cards ≤ 2_000
+      good_count = omega (arith, fits.cards, count_is)
 
-  pub good_cards : 24 * n ≤ length (take (length bytes - 7) (drop 7 bytes))
-  good_cards =
-      let fits = header_fitting bytes room h e n f q in
-      simp (length-take, length-drop) (omega arith)
+      pub good_answers : 16 * length cards ≤ room
+      good_answers = omega (arith, fits.answers, count_is)
 
-  pub good_answers : 16 * n ≤ room
-  good_answers = (header_fitting bytes room h e n f q).answers
+      module _ (b : concat cards ≡ drop 7 bytes) where
+        -- the cards of the register, as the code has them
+        pub good_cards : cards_from (length cards) 0 0 (concat cards) ≡ cards_of n bytes
+        unfolding cards_of
+        good_cards = ap₂ (λ m rest. cards_from m 0 0 rest) (k ∙ sym count_is) b
 
-pub ruleset good = (good_header, good_count, good_cards, good_answers)
+        pub header_good : (r : Result Leaders (SentBack ℕ)) → r ≡ result_of (cards_from (length cards) 0 0 (concat cards)) → r ≡ outcome_of bytes room
+        unfolding outcome_of
+        header_good r g = g ∙ (ap result_of good_cards ∙ ap (λ y. after_header y bytes) (sym q ∙ e))
+
+pub ruleset good = (good_header, good_count, good_answers)
 
 -- and what it leaves in the buffer
 module _ (bytes out : List ℕ) (h : Result ℕ Refusal) (e : h ≡ header_of bytes (length out)) where
@@ -86,7 +88,8 @@ module _ (bytes out : List ℕ) (h : Result ℕ Refusal) (e : h ≡ header_of by
   unfolding buffer_of
   header_kept r q = ap (λ y. filled_after y bytes out) (sym q ∙ e)
 
-  pub header_filled : (n : ℕ) (after : List ℕ) → h ≡ Ok n → after ≡ filled_with (cards_from n 0 0 (take (length bytes - 7) (drop 7 bytes))) out → after ≡ buffer_of bytes out
-  unfolding buffer_of cards_of
-  header_filled n after q g =
-      g ∙ (ap (λ y. filled_with (cards_from n 0 0 y) out) (behind_header bytes) ∙ ap (λ y. filled_after y bytes out) (sym q ∙ e))
+  pub header_filled : (f : HeaderFits bytes (length out) h) (n : ℕ) (q : h ≡ Ok n) (cards : List (List ℕ)) → length cards ≡ two_at bytes 5 → concat cards ≡ drop 7 bytes
+      → (after : List ℕ) → after ≡ filled_with (cards_from (length cards) 0 0 (concat cards)) out → after ≡ buffer_of bytes out
+  unfolding buffer_of
+  header_filled f n q cards k b after g =
+      g ∙ (ap (λ c. filled_with c out) (good_cards bytes (length out) h e f n q cards k b) ∙ ap (λ y. filled_after y bytes out) (sym q ∙ e))

@@ -2,6 +2,7 @@
 #![tactic(auto)]
 
 ghost use Rattle.std.specs.Prelude.{◌≡◌, ◌*◌, ◌≤◌, length};
+ghost use Rattle.std.specs.List.{concat};
 ghost use Rattle.cards.specs.Register.{cards_from, result_of, filled_with};
 
 use farthest::Leaders;
@@ -11,26 +12,25 @@ use walk::Answers;
 // The cards are walked once, into a buffer that nobody but the caller sees, and what it holds is copied where no card was refused: so
 // every card is checked before a byte of the lent buffer is written.
 pub fn answer_through(
-    cards: &[u8],
-    count: usize,
+    cards: &[[u8; 24]],
     scratch: &mut [u8],
     answers: &mut [u8],
 ) -> Result<Leaders, SentBack<u32>>
-    requires { (count ≤ 2000) × (24 * count ≤ length cards.now) × (16 * count ≤ length scratch.old) × (16 * count ≤ length answers.old) }
-    ensures value { result ≡ result_of (cards_from count 0 0 cards.now) }
-    ensures answers_after { answers.new ≡ filled_with (cards_from count 0 0 cards.now) answers.old }
+    requires { (length cards.now ≤ 2000) × (16 * length cards.now ≤ length scratch.old) × (16 * length cards.now ≤ length answers.old) }
+    ensures value { result ≡ result_of (cards_from (length cards.now) 0 0 (concat cards.now)) }
+    ensures answers_after { answers.new ≡ filled_with (cards_from (length cards.now) 0 0 (concat cards.now)) answers.old }
 {
-    let (running, size) = walk::through::<Answers>(cards, count, scratch)?;
+    let (running, size) = walk::through::<Answers>(cards, scratch)?;
     buffer::put_text(answers, 0, &scratch[..size]);
     Ok(running.leaders)
 }
 
 // One card needs no such buffer: the walk refuses it before it writes a byte.
-pub fn answer_one(cards: &[u8], count: usize, answers: &mut [u8]) -> Result<Leaders, SentBack<u32>>
-    requires { (count ≤ 1) × (24 * count ≤ length cards.now) × (16 * count ≤ length answers.old) }
-    ensures value { result ≡ result_of (cards_from count 0 0 cards.now) }
-    ensures answers_after { answers.new ≡ filled_with (cards_from count 0 0 cards.now) answers.old }
+pub fn answer_one(cards: &[[u8; 24]], answers: &mut [u8]) -> Result<Leaders, SentBack<u32>>
+    requires { (length cards.now ≤ 1) × (16 * length cards.now ≤ length answers.old) }
+    ensures value { result ≡ result_of (cards_from (length cards.now) 0 0 (concat cards.now)) }
+    ensures answers_after { answers.new ≡ filled_with (cards_from (length cards.now) 0 0 (concat cards.now)) answers.old }
 {
-    let walked = walk::through::<Answers>(cards, count, answers);
+    let walked = walk::through::<Answers>(cards, answers);
     walk::outcome_of(walked)
 }

@@ -1,8 +1,9 @@
 // The header of a register: document 01's checks 1 to 4.
 #![tactic(auto)]
 
-ghost use Rattle.std.specs.Prelude.{◌≡◌};
-ghost use Rattle.header.specs.Header.{bad_length, bad_version, bad_count, bad_buffer, header_of, HeaderFits};
+ghost use Rattle.std.specs.Prelude.{◌≡◌, ◌+◌, ◌*◌, length, drop};
+ghost use Rattle.std.specs.List.{concat};
+ghost use Rattle.header.specs.Header.{header_size, card_size, count_of, bad_length, bad_version, bad_count, bad_buffer, header_of, HeaderFits};
 
 use refusals::Refusal;
 
@@ -50,4 +51,16 @@ pub fn header_of(register: &[u8], room: usize) -> Result<usize, Refusal>
         return Err(Refusal::Buffer);
     }
     Ok(count)
+}
+
+// The cards of a register whose length is that of its count, as a good header says and as an accepted register has it: 24 bytes
+// each, one behind the other.
+#[tactic(auto, using(crate::proofs::Cards::header_there, crate::proofs::Cards::cards_counted, crate::proofs::Cards::cards_joined))]
+pub fn cards_of(register: &[u8]) -> &[[u8; 24]]
+    requires { length register.now ≡ header_size + card_size * count_of register.now }
+    ensures count { length result.now ≡ count_of register.now }
+    ensures bytes { concat result.now ≡ drop header_size register.now }
+{
+    let (cards, _) = register[7..].as_chunks::<24>();
+    cards
 }

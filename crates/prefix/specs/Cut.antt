@@ -1,7 +1,8 @@
 -- A register's cards cut behind the first of them: what the first come to and what the others come to is what they all come to.
 -- Assumes nothing.
-use Rattle.std.specs.Prelude.{ℕ, zero, suc, ◌+◌, ◌*◌, ◌≡◌, refl, List, [], ◌∷◌, ◌++◌, take, drop, Result, Ok, Err}
-use Rattle.std.proofs.Common.{arith, ◌∙◌, ap, drop-drop}
+use Rattle.std.specs.Prelude.{ℕ, zero, suc, ◌+◌, ◌*◌, ◌≤◌, ◌≡◌, refl, List, [], ◌∷◌, ◌++◌, length, take, drop, Result, Ok, Err}
+use Rattle.std.proofs.Common.{arith, ◌∙◌, ap, ap₂, length-drop, drop-drop}
+use lib.Seq.{take-append-le, drop-append-le}
 use Rattle.search.specs.Laws.{clash}
 use Rattle.refusals.specs.declared.Refusal.{Refusal}
 use Rattle.card.specs.declared.Answer.{Answer}
@@ -23,6 +24,22 @@ front_answers (a ∷ xs) ys = ap (joined a) (front_answers xs ys)
 pub front_sent_back : (xs : List Answer) (r : Refusal) (place : ℕ) → in_front xs (sent_back r place) ≡ sent_back r place
 front_sent_back [] r place = refl
 front_sent_back (a ∷ xs) r place = ap (joined a) (front_sent_back xs r place)
+
+-- the first cards are read from their own bytes, whatever stands behind them
+pub cards_front : (m place last : ℕ) (bytes rest : List ℕ) → length bytes ≡ 24 * m → cards_from m place last (bytes ++ rest) ≡ cards_from m place last bytes
+unfolding cards_from
+cards_front zero place last bytes rest e = refl
+cards_front (suc m) place last bytes rest e =
+    let enough : 24 ≤ length bytes = omega (arith, e) in
+    let left : length (drop 24 bytes) ≡ 24 * m = omega (arith, e, length-drop 24 bytes) in
+    ap₂ (λ card others. then (answer_of card last) place (λ k. cards_from m (suc place) k others)) (take-append-le 24 bytes rest enough) (drop-append-le 24 bytes rest enough)
+    ∙ go (answer_of (take 24 bytes) last) (λ k. cards_front m (suc place) k (drop 24 bytes) rest left)
+  where
+    go : (x : Result Answer Refusal)
+        → ((k : ℕ) → cards_from m (suc place) k (drop 24 bytes ++ rest) ≡ cards_from m (suc place) k (drop 24 bytes))
+        → then x place (λ k. cards_from m (suc place) k (drop 24 bytes ++ rest)) ≡ then x place (λ k. cards_from m (suc place) k (drop 24 bytes))
+    go (Ok a) ih = ap (joined a) (ih a.number)
+    go (Err r) ih = refl
 
 -- the first cards are all answered: the others follow from the running values behind them
 pub cut_answered : (m n : ℕ) (s : Running) (bytes : List ℕ) (xs : List Answer) → cards_from m s.place s.last bytes ≡ answers xs

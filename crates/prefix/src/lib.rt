@@ -1,7 +1,8 @@
 // The leaders as they go: the farthest card of each class after the first cards of a register.
 #![tactic(auto)]
 
-ghost use Rattle.std.specs.Prelude.{◌≡◌, ◌*◌, ◌≤◌, length};
+ghost use Rattle.std.specs.Prelude.{◌≡◌, ◌≤◌, length};
+ghost use Rattle.std.specs.List.{concat};
 ghost use Rattle.cards.specs.Register.{cards_from};
 ghost use Rattle.prefix.specs.Prefix.{result_after, prefix_of};
 ghost use Rattle.prefix.specs.Claim.{Keeps};
@@ -12,13 +13,13 @@ use walk::Nothing;
 
 // The running values of the one walk, where it has passed the first cards. It then goes on through the others, since a register is
 // accepted as a whole or not at all.
-fn leaders_at(cards: &[u8], first: usize, count: usize) -> Result<Leaders, SentBack<u32>>
-    requires { (first ≤ count) × (count ≤ 2000) × (24 * count ≤ length cards.now) }
-    ensures { result ≡ result_after first (cards_from count 0 0 cards.now) }
+fn leaders_at(cards: &[[u8; 24]], first: usize) -> Result<Leaders, SentBack<u32>>
+    requires { (first ≤ length cards.now) × (length cards.now ≤ 2000) }
+    ensures { result ≡ result_after first (cards_from (length cards.now) 0 0 (concat cards.now)) }
 {
-    let mut nowhere = [0u8; 1];
-    let (running, _) = walk::through::<Nothing>(cards, first, &mut nowhere)?;
-    walk::along::<Nothing>(cards, running, count, &mut nowhere)?;
+    let (front, behind) = cards.split_at(first);
+    let (running, _) = walk::through::<Nothing>(front, &mut [])?;
+    walk::along::<Nothing>(behind, running, &mut [])?;
     Ok(running.leaders)
 }
 
@@ -28,6 +29,7 @@ pub fn leaders_after(register: &[u8], k: usize) -> Result<Leaders, SentBack<u32>
     ensures value { result ≡ prefix_of register.now k }
     ensures keeps { Keeps register.now k result }
 {
-    let count = header::header_of(register, header::ENOUGH)?;
-    leaders_at(&register[7..], k.min(count), count)
+    header::header_of(register, header::ENOUGH)?;
+    let cards = header::cards_of(register);
+    leaders_at(cards, k.min(cards.len()))
 }

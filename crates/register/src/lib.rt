@@ -2,6 +2,7 @@
 #![tactic(auto)]
 
 ghost use Rattle.std.specs.Prelude.{◌≡◌, ◌*◌, ◌≤◌, length};
+ghost use Rattle.std.specs.List.{concat};
 ghost use Rattle.cards.specs.Register.{cards_from, result_of, filled_with, outcome_of, buffer_of};
 
 use farthest::Leaders;
@@ -10,32 +11,31 @@ use walk::Nothing;
 
 // The answers of a register's cards, by way of a buffer of this length.
 fn answer_by<const ROOM: usize>(
-    cards: &[u8],
-    count: usize,
+    cards: &[[u8; 24]],
     answers: &mut [u8],
 ) -> Result<Leaders, SentBack<u32>>
-    requires { (16 * count ≤ ROOM) × (ROOM ≤ 32_000) × (count ≤ 2000) × (24 * count ≤ length cards.now) × (16 * count ≤ length answers.old) }
-    ensures value { result ≡ result_of (cards_from count 0 0 cards.now) }
-    ensures answers_after { answers.new ≡ filled_with (cards_from count 0 0 cards.now) answers.old }
+    requires { (16 * length cards.now ≤ ROOM) × (ROOM ≤ 32_000) × (length cards.now ≤ 2000) × (16 * length cards.now ≤ length answers.old) }
+    ensures value { result ≡ result_of (cards_from (length cards.now) 0 0 (concat cards.now)) }
+    ensures answers_after { answers.new ≡ filled_with (cards_from (length cards.now) 0 0 (concat cards.now)) answers.old }
 {
     let mut scratch = [0u8; ROOM];
-    cards::answer_through(cards, count, &mut scratch, answers)
+    cards::answer_through(cards, &mut scratch, answers)
 }
 
 // A short register has a short buffer: to clear the long one, with room for as many cards as a register may have, costs about as
 // much as four cards.
-fn answer_all(cards: &[u8], count: usize, answers: &mut [u8]) -> Result<Leaders, SentBack<u32>>
-    requires { (count ≤ 2000) × (24 * count ≤ length cards.now) × (16 * count ≤ length answers.old) }
-    ensures value { result ≡ result_of (cards_from count 0 0 cards.now) }
-    ensures answers_after { answers.new ≡ filled_with (cards_from count 0 0 cards.now) answers.old }
+fn answer_all(cards: &[[u8; 24]], answers: &mut [u8]) -> Result<Leaders, SentBack<u32>>
+    requires { (length cards.now ≤ 2000) × (16 * length cards.now ≤ length answers.old) }
+    ensures value { result ≡ result_of (cards_from (length cards.now) 0 0 (concat cards.now)) }
+    ensures answers_after { answers.new ≡ filled_with (cards_from (length cards.now) 0 0 (concat cards.now)) answers.old }
 {
-    if count <= 1 {
-        return cards::answer_one(cards, count, answers);
+    if cards.len() <= 1 {
+        return cards::answer_one(cards, answers);
     }
-    if count <= 64 {
-        return answer_by::<1_024>(cards, count, answers);
+    if cards.len() <= 64 {
+        return answer_by::<1_024>(cards, answers);
     }
-    answer_by::<32_000>(cards, count, answers)
+    answer_by::<32_000>(cards, answers)
 }
 
 // The call that everyone uses: a register and a lent answer buffer. Every card is checked before a byte is written.
@@ -43,17 +43,16 @@ pub fn fill(register: &[u8], answers: &mut [u8]) -> Result<Leaders, SentBack<u32
     ensures value { result ≡ outcome_of register.now (length answers.old) }
     ensures answers_after { answers.new ≡ buffer_of register.now answers.old }
 {
-    let count = header::header_of(register, answers.len())?;
-    answer_all(&register[7..], count, answers)
+    header::header_of(register, answers.len())?;
+    answer_all(header::cards_of(register), answers)
 }
 
 // The walk that only asks writes nothing.
-fn ask(cards: &[u8], count: usize) -> Result<Leaders, SentBack<u32>>
-    requires { (count ≤ 2000) × (24 * count ≤ length cards.now) }
-    ensures { result ≡ result_of (cards_from count 0 0 cards.now) }
+fn ask(cards: &[[u8; 24]]) -> Result<Leaders, SentBack<u32>>
+    requires { length cards.now ≤ 2000 }
+    ensures { result ≡ result_of (cards_from (length cards.now) 0 0 (concat cards.now)) }
 {
-    let mut nowhere = [0u8; 1];
-    let walked = walk::through::<Nothing>(cards, count, &mut nowhere);
+    let walked = walk::through::<Nothing>(cards, &mut []);
     walk::outcome_of(walked)
 }
 
@@ -61,6 +60,6 @@ fn ask(cards: &[u8], count: usize) -> Result<Leaders, SentBack<u32>>
 pub fn outcome_of(register: &[u8], room: usize) -> Result<Leaders, SentBack<u32>>
     ensures { result ≡ outcome_of register.now room }
 {
-    let count = header::header_of(register, room)?;
-    ask(&register[7..], count)
+    header::header_of(register, room)?;
+    ask(header::cards_of(register))
 }

@@ -1,7 +1,7 @@
 // The running values of a walk over a register's cards, and the step to one card more. Every walk goes by this step.
 #![tactic(auto)]
 
-ghost use Rattle.std.specs.Prelude.{◌≡◌, ◌+◌, ◌*◌, ◌≤◌, ◌<◌, length, take, drop};
+ghost use Rattle.std.specs.Prelude.{◌≡◌, ◌<◌};
 ghost use Rattle.running.specs.Running.{before_cards, step_of};
 
 use card::Answer;
@@ -44,14 +44,4 @@ pub fn step(running: Running, card: &[u8]) -> Result<(Running, Answer), SentBack
         place: running.place + 1,
     };
     Ok((next, answer))
-}
-
-// The step to the card at the running place.
-pub fn step_at(cards: &[u8], running: Running) -> Result<(Running, Answer), SentBack<u32>>
-    requires { (running.place < 2000) × (24 * running.place + 24 ≤ length cards.now) }
-    ensures { result ≡ step_of running (take 24 (drop (24 * running.place) cards.now)) }
-{
-    let at = 24 * running.place;
-    let end = at + 24;
-    step(running, &cards[at..end])
 }

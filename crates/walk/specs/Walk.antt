@@ -5,11 +5,8 @@
 use Rattle.std.specs.Prelude.{ℕ, zero, suc, ◌+◌, ◌≤◌, List, [], ◌∷◌, ◌++◌, length, take, drop, Result, Ok, Err}
 use Rattle.farthest.specs.declared.Leaders.{Leaders}
 use Rattle.refusals.specs.declared.SentBack.{SentBack}
-use Rattle.refusals.specs.Numbers.{refused_at}
 use Rattle.card.specs.declared.Answer.{Answer}
-use Rattle.encode.specs.Bytes.{answer_bytes}
-use Rattle.lines.specs.Lines.{card_line}
-use Rattle.header.specs.Header.{card_size, answer_size}
+use Rattle.header.specs.Header.{card_size}
 use Rattle.running.specs.declared.Running.{Running}
 use Rattle.running.specs.Running.{step_of}
 

@@ -2,7 +2,8 @@
 // register, who only asks about it, who lists it and who wants the leaders after some of its cards all go by it.
 #![tactic(auto)]
 
-ghost use Rattle.std.specs.Prelude.{◌≡◌, ℕ, ◌+◌, ◌-◌, ◌*◌, ◌≤◌, ◌<◌, List, length, drop};
+ghost use Rattle.std.specs.Prelude.{◌≡◌, ℕ, ◌+◌, ◌*◌, ◌≤◌, List, length};
+ghost use Rattle.std.specs.List.{concat};
 ghost use Rattle.std.proofs.lemmas.List.Edits.{sets};
 ghost use Rattle.buffer.specs.Wrote.{Wrote};
 ghost use Rattle.card.specs.declared.Answer.{Answer};
@@ -69,23 +70,22 @@ impl Writes for Lines {
     }
 }
 
-// The walk, from the running values on up to a place: the running values there, and how many bytes were written. It stops at the
-// first card that is refused.
+// The walk over these cards, from the running values on: the running values behind them, and how many bytes were written. It stops
+// at the first card that is refused.
 pub fn along<W: Writes>(
-    cards: &[u8],
+    cards: &[[u8; 24]],
     from: Running,
-    to: usize,
     out: &mut [u8],
 ) -> Result<(Running, usize), SentBack<u32>>
-    requires { (to ≤ 2000) × (24 * to ≤ length cards.now) × (from.place ≤ to) × (W.most * to ≤ length out.old) }
-    ensures value { result ≡ walk_from W.text (to - from.place) from 0 (drop (24 * from.place) cards.now) }
-    ensures out_after { out.new ≡ sets out.old 0 (text_from W.text (to - from.place) from (drop (24 * from.place) cards.now)) }
-    ensures within { Within (W.most * to) result }
+    requires { (from.place + length cards.now ≤ 2000) × (W.most * length cards.now ≤ length out.old) }
+    ensures value { result ≡ walk_from W.text (length cards.now) from 0 (concat cards.now) }
+    ensures out_after { out.new ≡ sets out.old 0 (text_from W.text (length cards.now) from (concat cards.now)) }
+    ensures within { Within (W.most * length cards.now) result }
 {
     let mut running = from;
     let mut at = 0usize;
-    while running.place < to {
-        match running::step_at(cards, running) {
+    for card in cards {
+        match running::step(running, card) {
             Ok((next, answer)) => {
                 at = W::put(out, at, answer);
                 running = next;
@@ -99,16 +99,15 @@ pub fn along<W: Writes>(
 
 // The walk through all cards of a register.
 pub fn through<W: Writes>(
-    cards: &[u8],
-    count: usize,
+    cards: &[[u8; 24]],
     out: &mut [u8],
 ) -> Result<(Running, usize), SentBack<u32>>
-    requires { (count ≤ 2000) × (24 * count ≤ length cards.now) × (W.most * count ≤ length out.old) }
-    ensures value { result ≡ walk_from W.text count before_cards 0 cards.now }
-    ensures out_after { out.new ≡ sets out.old 0 (text_from W.text count before_cards cards.now) }
-    ensures within { Within (W.most * count) result }
+    requires { (length cards.now ≤ 2000) × (W.most * length cards.now ≤ length out.old) }
+    ensures value { result ≡ walk_from W.text (length cards.now) before_cards 0 (concat cards.now) }
+    ensures out_after { out.new ≡ sets out.old 0 (text_from W.text (length cards.now) before_cards (concat cards.now)) }
+    ensures within { Within (W.most * length cards.now) result }
 {
-    along::<W>(cards, running::start(), count, out)
+    along::<W>(cards, running::start(), out)
 }
 
 // The end of a walk through all cards as a call's answer: both classes' farthest.

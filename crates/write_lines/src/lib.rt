@@ -2,7 +2,8 @@
 // through twice, once for the length of the text and once to write it, so that a buffer too short stays as it was.
 #![tactic(auto)]
 
-ghost use Rattle.std.specs.Prelude.{◌≡◌, ◌*◌, ◌≤◌, length};
+ghost use Rattle.std.specs.Prelude.{◌≡◌, ◌≤◌, length};
+ghost use Rattle.std.specs.List.{concat};
 ghost use Rattle.strict_lines.specs.Walk.{lines_to};
 ghost use Rattle.write_lines.specs.Writing.{answer_as, written_as, writing_of, write_into};
 ghost use Rattle.write_lines.specs.Accepted.{accepted};
@@ -11,26 +12,26 @@ use refusals::{Refusal, SentBack};
 
 // The text of an accepted register's cards, or 13.
 #[tactic(auto, using(buffer::proofs::Laws::written_first))]
-fn write_cards(cards: &[u8], count: usize, out: &mut [u8]) -> Result<usize, SentBack<usize>>
-    requires { (count ≤ 2000) × (24 * count ≤ length cards.now) }
-    ensures value { result ≡ answer_as accepted (lines_to count cards.now) (length out.old) }
-    ensures out_after { out.new ≡ written_as accepted (lines_to count cards.now) out.old }
+fn write_cards(cards: &[[u8; 24]], out: &mut [u8]) -> Result<usize, SentBack<usize>>
+    requires { length cards.now ≤ 2000 }
+    ensures value { result ≡ answer_as accepted (lines_to (length cards.now) (concat cards.now)) (length out.old) }
+    ensures out_after { out.new ≡ written_as accepted (lines_to (length cards.now) (concat cards.now)) out.old }
 {
     let mut line = [0u8; 256];
-    let size = strict_lines::text_size(cards, count, &mut line);
+    let size = strict_lines::text_size(cards, &mut line);
     if out.len() < size {
         return Err(SentBack {
             refusal: Refusal::Room,
             place: 0,
         });
     }
-    strict_lines::put_lines(cards, count, &mut line, out);
+    strict_lines::put_lines(cards, &mut line, out);
     Ok(size)
 }
 
 // Writes a register as comma lines. A register that is sent back and too short a buffer leave every byte as it was, and so do
 // the bytes behind the text always.
-#[tactic(auto, using(crate::proofs::Ends::accepted_header, crate::proofs::Ends::accepted_count, crate::proofs::Ends::accepted_cards, crate::proofs::Ends::text_is), unfolding(crate::specs::Writing::writing_of, crate::specs::Writing::write_into))]
+#[tactic(auto, using(crate::proofs::Ends::accepted_length, crate::proofs::Ends::accepted_count, crate::proofs::Ends::text_is), unfolding(crate::specs::Writing::writing_of, crate::specs::Writing::write_into))]
 pub fn write(register: &[u8], out: &mut [u8]) -> Result<usize, SentBack<usize>>
     ensures value { result ≡ writing_of register.now (length out.old) }
     ensures out_after { out.new ≡ write_into register.now out.old }
@@ -41,6 +42,5 @@ pub fn write(register: &[u8], out: &mut [u8]) -> Result<usize, SentBack<usize>>
             place: place as usize,
         });
     }
-    let count = buffer::two(register, 5) as usize;
-    write_cards(&register[7..], count, out)
+    write_cards(header::cards_of(register), out)
 }

@@ -5,20 +5,17 @@ use Rattle.prefix.proofs.Ends.{header_told, fewer_cards, kept}
 use borrow.Author.Rules.{rules}
 use Rattle.prefix.proofs.leaders_after.Goals as goal
 
-pub returns-in_err-count : goal.returns-in_err-count
-returns-in_err-count c = let q = c.in_err-count.was {u = tt} in record {
+pub returns-in_err-header_of : goal.returns-in_err-header_of
+returns-in_err-header_of c = let q = c.in_err-header_of.was {u = tt} in record {
   value = search (header_told, q, rules);
   keeps = search (header_told, kept, q, rules);
 }
 
-pub slice_bounds-leaders_at-count : goal.slice_bounds-leaders_at-count
-slice_bounds-leaders_at-count c = let q = c.in_ok-count.was {u = tt} in search (good, q, rules)
-
-pub slice_bounds-leaders_at-start : goal.slice_bounds-leaders_at-start
-slice_bounds-leaders_at-start c = let q = c.in_ok-count.was {u = tt} in search (good, q, rules)
+pub cards_of-cards-requires : goal.cards_of-cards-requires
+cards_of-cards-requires c = let q = c.in_ok-header_of.was {u = tt} in search (good, q, rules)
 
 pub leaders_at-requires : goal.leaders_at-requires
-leaders_at-requires c = let q = c.in_ok-count.was {u = tt} in search (good, q, rules)
+leaders_at-requires c = let q = c.in_ok-header_of.was {u = tt} in search (good, q, rules)
 
 pub returns : goal.returns
-returns c = let q = c.in_ok-count.was {u = tt} in search (fewer_cards, kept, q, rules)
+returns c = let q = c.in_ok-header_of.was {u = tt} in search (fewer_cards, kept, q, rules)

@@ -5,17 +5,14 @@ use Rattle.cards.proofs.Laws.{header_refused, header_kept, header_good, header_f
 use borrow.Author.Rules.{rules}
 use Rattle.register.proofs.fill.Goals as goal
 
-pub returns-in_err-count : goal.returns-in_err-count
-returns-in_err-count c = let q = c.in_err-count.was {u = tt} in search (q, header_refused, header_kept, rules)
+pub returns-in_err-header_of : goal.returns-in_err-header_of
+returns-in_err-header_of c = let q = c.in_err-header_of.was {u = tt} in search (q, header_refused, header_kept, rules)
 
-pub slice_bounds-answer_all-count : goal.slice_bounds-answer_all-count
-slice_bounds-answer_all-count c = let q = c.in_ok-count.was {u = tt} in search (q, good, rules)
-
-pub slice_bounds-answer_all-start : goal.slice_bounds-answer_all-start
-slice_bounds-answer_all-start c = let q = c.in_ok-count.was {u = tt} in search (q, good, rules)
+pub cards_of-requires : goal.cards_of-requires
+cards_of-requires c = let q = c.in_ok-header_of.was {u = tt} in search (q, good, rules)
 
 pub answer_all-requires : goal.answer_all-requires
-answer_all-requires c = let q = c.in_ok-count.was {u = tt} in search (q, good, rules)
+answer_all-requires c = let q = c.in_ok-header_of.was {u = tt} in search (q, good, rules)
 
 pub returns : goal.returns
-returns c = let q = c.in_ok-count.was {u = tt} in search (q, header_good, header_filled, rules)
+returns c = let q = c.in_ok-header_of.was {u = tt} in search (q, header_good, header_filled, rules)

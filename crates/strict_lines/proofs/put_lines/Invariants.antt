@@ -4,10 +4,11 @@
 use Prim.Native.Nat.{◌≤◌}
 use mathlib.Core.Path.{◌≡◌}
 use lib.ListN.{length}
+use Rattle.std.specs.List.{concat}
 use Rattle.buffer.specs.Wrote.{Wrote}
 use Rattle.strict_lines.specs.Walk.{lines_to}
 use Rattle.strict_lines.proofs.put_lines.Given as goal
 
-abbrev pub invariant-loop-place : goal.invariant-loop-place
-invariant-loop-place l = (256 ≤ length l.line) × (length l.line ≡ length l.initial.line) × (length l.out ≡ length l.initial.out)
-    × Wrote l.initial.out l.out 0 l.at (lines_to l.place l.cards)
+abbrev pub invariant-loop-card : goal.invariant-loop-card
+invariant-loop-card l = (256 ≤ length l.line) × (length l.line ≡ length l.initial.line) × (length l.out ≡ length l.initial.out)
+    × Wrote l.initial.out l.out 0 l.at (lines_to l.card-index (concat l.cards))

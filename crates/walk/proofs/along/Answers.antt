@@ -1,16 +1,12 @@
-use Prim.Native.Nat.{◌-◌}
 use borrow.Author.Rules.{rules}
-use Rattle.walk.proofs.Turns.{room, turn_place, turn_less, turn_at, turn_left, turn_written, refused_left, refused_written, end_left, end_written, end_within}
+use Rattle.walk.proofs.Turns.{room, turn_place, turn_at, turn_left, turn_written, refused_left, refused_written, end_left, end_written, end_within}
 use Rattle.walk.proofs.along.Goals as goal
 
 pub put-at-requires : goal.put-at-requires
 put-at-requires g c = search (room, rules)
 
-pub loop-running-smaller : goal.loop-running-smaller
-loop-running-smaller g c = search (turn_less, rules)
-
-pub loop-running-preserved : goal.loop-running-preserved
-loop-running-preserved g c = search (turn_place, turn_at, turn_left, turn_written, rules)
+pub loop-card-preserved : goal.loop-card-preserved
+loop-card-preserved g c = search (turn_place, turn_at, turn_left, turn_written, rules)
 
 pub returns-in-Err : goal.returns-in-Err
 returns-in-Err g c = search (refused_left, refused_written, rules)

@@ -1,4 +1,3 @@
-use Rattle.std.proofs.Common.{rules}
 use Rattle.walk.proofs.Turns.{answer_put}
 use Rattle.walk.proofs.AnswersWrites.put.Goals as goal
 
