@@ -43,6 +43,18 @@ impl From<Refusal> for SentBack<u32> {
     }
 }
 
+// A register's refusal, handed on by a call whose places may be a line's of a long text.
+impl From<SentBack<u32>> for SentBack<usize> {
+    ghost from_gives = { λ sent same. same ≡ sent };
+
+    fn from(sent: SentBack<u32>) -> SentBack<usize> {
+        SentBack {
+            refusal: sent.refusal,
+            place: sent.place as usize,
+        }
+    }
+}
+
 // The number of a refusal.
 impl From<Refusal> for u8 {
     ghost from_gives = { λ r n. n ≡ number_of r };

@@ -97,5 +97,5 @@ pub extern "C" fn rings_likely(
 pub extern "C" fn rings_is_old(answer: &[u8; 16]) -> u64
     ensures { result ≡ flag_of (is_old answer.now) }
 {
-    if encode::is_old(answer) { 1 } else { 0 }
+    u64::from(encode::is_old(answer))
 }

@@ -36,11 +36,6 @@ pub fn write(register: &[u8], out: &mut [u8]) -> Result<usize, SentBack<usize>>
     ensures value { result ≡ writing_of register.now (length out.old) }
     ensures out_after { out.new ≡ write_into register.now out.old }
 {
-    if let Err(SentBack { refusal, place }) = register::outcome_of(register, header::ENOUGH) {
-        return Err(SentBack {
-            refusal,
-            place: place as usize,
-        });
-    }
+    register::outcome_of(register, header::ENOUGH)?;
     write_cards(header::cards_of(register), out)
 }
