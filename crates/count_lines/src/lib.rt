@@ -1,19 +1,49 @@
-// The lines of a text, counted, or the first of them that is not well formed: the first walk of the reader of comma lines.
+// The lines of a text, one by one, and counted, or the first of them that is not well formed: the first walk of the reader of comma lines.
 #![tactic(auto)]
 
-ghost use Rattle.std.specs.Prelude.{◌≡◌, ◌+◌, ◌≤◌, ◌<◌, length, drop};
-ghost use Rattle.pieces.specs.Pieces.{before};
+ghost use Rattle.std.specs.Prelude.{◌≡◌};
 ghost use Rattle.comma.specs.Text.{cards_in};
 ghost use Rattle.count_lines.specs.Count.{count_from};
 
-// Where the line that starts at a place ends: at its line feed, or at the end of the text.
-pub fn line_end(text: &[u8], at: usize) -> usize
-    requires { at < length text.now }
-    ensures value { result ≡ at + length (before 10 (drop at text.now)) }
-    ensures lower_bound { at ≤ result }
-    ensures upper_bound { result ≤ length text.now }
-{
-    pieces::end_of(text, at, b'\n')
+// The lines that are left of a text.
+#[derive(Drop)]
+pub struct Lines<'a> {
+    rest: &'a [u8],
+}
+
+impl<'a> Iterator for Lines<'a> {
+    ghost use Rattle.std.specs.Iterator.{YieldsFirstBy, item_count};
+    ghost use Rattle.count_lines.specs.Left.{lines_left};
+
+    type Item = &'a [u8];
+
+    ghost next_gives = { YieldsFirstBy (λ line. line.now) lines_left };
+
+    ghost remaining = { item_count lines_left };
+
+    // The next line, without its line feed; the last may have none.
+    #[tactic(auto, using(crate::specs::Laws::first_line, crate::specs::Laws::no_line))]
+    fn next(&mut self) -> Option<&'a [u8]> {
+        if self.rest.is_empty() {
+            return None;
+        }
+        let end = pieces::end_of(self.rest, 0, b'\n');
+        let line = &self.rest[..end];
+        self.rest = self.rest.get(end + 1..).unwrap_or(&[]);
+        Some(line)
+    }
+}
+
+impl<'a> Lines<'a> {
+    ghost use Rattle.comma.specs.Text.{lines_of};
+    ghost use Rattle.count_lines.specs.Left.{lines_left};
+
+    // The lines of a text.
+    pub fn of(text: &'a [u8]) -> Self
+        ensures { lines_left result ≡ lines_of text.now }
+    {
+        Lines { rest: text }
+    }
 }
 
 // The first walk: how many lines a text has, or the number of the first that is not well formed, counted from 1. Every line is looked
@@ -22,12 +52,9 @@ pub fn count_lines(text: &[u8]) -> Result<usize, usize>
     ensures { result ≡ count_from 0 (cards_in text.now) }
 {
     let mut count = 0usize;
-    let mut at = 0usize;
-    while at < text.len() {
-        let end = line_end(text, at);
-        read_line::line_of(&text[at..end]).ok_or(count + 1)?;
+    for line in Lines::of(text) {
+        read_line::line_of(line).ok_or(count + 1)?;
         count += 1;
-        at = end + 1;
     }
     Ok(count)
 }

@@ -7,6 +7,7 @@ ghost use Rattle.comma.specs.Text.{cards_in, reading_of, read_into};
 ghost use Rattle.count_lines.specs.Count.{count_from};
 ghost use Rattle.read_lines.specs.Walk.{laid_from};
 
+use count_lines::Lines;
 use refusals::{Refusal, SentBack};
 
 // The second walk: the cards, one behind the other. It stops at a line that has none, which the first walk rules out.
@@ -14,14 +15,11 @@ fn put_cards(text: &[u8], count: usize, out: &mut [u8])
     requires { (count_from 0 (cards_in text.now) ≡ Ok count) × (count ≤ 2000) × (7 + 24 * count ≤ length out.old) }
     ensures { out.new ≡ laid_from 7 (cards_in text.now) out.old }
 {
-    let mut at = 0usize;
-    for place in 0..count {
-        let end = count_lines::line_end(text, at);
-        let Some(fields) = read_line::line_of(&text[at..end]) else {
+    for (place, line) in (0..count).zip(Lines::of(text)) {
+        let Some(fields) = read_line::line_of(line) else {
             return;
         };
         register_bytes::put_card(out, 7 + 24 * place, fields);
-        at = end + 1;
     }
 }
 

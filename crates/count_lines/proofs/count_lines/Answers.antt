@@ -1,17 +1,20 @@
 use Rattle.std.proofs.Common.{arith, rules}
 use Rattle.std.proofs.lemmas.Grind.{common_steps}
-use Rattle.count_lines.specs.Laws.{count_start, count_turn, count_bad, count_end}
+use Rattle.comma.specs.Text.{cards_in}
+use Rattle.count_lines.specs.Count.{count_from}
+use Rattle.count_lines.specs.Left.{lines_left}
+use Rattle.count_lines.specs.Laws.{lines_within, count_start, count_turn, count_bad, count_end}
 use Rattle.count_lines.proofs.count_lines.Goals as goal
 
-pub loop-at-init : goal.loop-at-init
-loop-at-init c = search (count_start, rules)
+pub loop-line-init : goal.loop-line-init
+loop-line-init c = (tt, tt, search (count_start, rules), grind (arith, common_steps, lines_within))
 
 pub returns-in_err-ok_or : goal.returns-in_err-ok_or
-returns-in_err-ok_or c = grind (arith, common_steps, count_bad)
+returns-in_err-ok_or c =
+    grind (arith, common_steps, count_bad (count_from 0 (cards_in c.args.text.now)) c.loop-line.count (lines_left c.loop-line.line-iterator) c.loop-line.invariant.2 c.in-Some.line.now (lines_left c.next.new.self) c.in-Some.ensures.steps c.line_of.result c.line_of.ensures)
 
-pub loop-at-preserved : goal.loop-at-preserved
-loop-at-preserved c =
-    (search (count_turn, rules), omega arith, omega arith)
+pub loop-line-preserved : goal.loop-line-preserved
+loop-line-preserved c = (tt, tt, search (count_turn, rules), grind (arith, common_steps))
 
 pub returns : goal.returns
 returns c = search (count_end, rules)

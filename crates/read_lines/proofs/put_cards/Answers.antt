@@ -1,18 +1,41 @@
-use Rattle.read_lines.specs.Laws.{lay_start, lay_counted, lay_there, lay_next, lay_turn, lay_bad, lay_end}
-use borrow.Author.Rules.{rules}
+use Rattle.std.specs.Prelude.{◌+◌, ◌*◌, ◌≡◌, Some, length}
+use Rattle.std.proofs.Common.{arith, sym}
+use Rattle.std.proofs.lemmas.List.Edits.{sets}
+use Rattle.std.proofs.lemmas.Grind.{common_steps}
+use Rattle.std.specs.Iterator.Adapters.{zip_first, zip_second}
+use Rattle.comma.specs.Text.{cards_in, card_bytes}
+use Rattle.count_lines.specs.Left.{lines_left}
+use Rattle.read_lines.specs.Walk.{laid_from}
+use Rattle.read_lines.specs.Laws.{lay_start, lay_counted, lay_next, lay_turn, lay_bad, lay_end, lay_none}
 use Rattle.read_lines.proofs.put_cards.Goals as goal
 
 pub loop-place-init : goal.loop-place-init
-loop-place-init c = search (lay_start, lay_counted, rules)
-
-pub line_end-end-requires : goal.line_end-end-requires
-line_end-end-requires c = search (lay_there, rules)
+loop-place-init c = grind (arith, common_steps, lay_start, lay_counted)
 
 pub returns-in_default : goal.returns-in_default
-returns-in_default c = search (lay_bad, rules)
+returns-in_default c =
+    let s = c.loop-place.place-iterator in
+    grind (arith, common_steps, lay_bad c.args.count (zip_first s).start (lines_left (zip_second s)) c.loop-place.invariant.3 c.in-Some.line.now (lines_left (zip_second c.next.new.self)) c.in-Some.ensures.steps.1 c.line_of.result c.line_of.ensures)
 
 pub loop-place-preserved : goal.loop-place-preserved
-loop-place-preserved c = (search (lay_turn, rules), search (lay_next, rules), search rules)
+loop-place-preserved c =
+    let s = c.loop-place.place-iterator in
+    let t = c.next.new.self in
+    let place = (zip_first s).start in
+    let left = lines_left (zip_second s) in
+    let others = lines_left (zip_second t) in
+    let fields = c.in-Some-line_of.fields in
+    let here : c.in-Some.place ≡ place = grind (arith, common_steps) in
+    let next : (zip_first t).start ≡ place + 1 = grind (arith, common_steps) in
+    let end : (zip_first t).end ≡ c.args.count = grind (arith, common_steps) in
+    let good : c.line_of.result ≡ Some fields = grind (arith, common_steps) in
+    let put : c.put_card.new.out ≡ sets c.loop-place.out (7 + 24 * place) (card_bytes fields) = rw (sym here) c.put_card.ensures in
+    let size : length c.put_card.new.out ≡ length c.args.out.now = grind (arith, common_steps) in
+    let turned = lay_turn c.args.count place left c.loop-place.invariant.3 c.in-Some.line.now others c.in-Some.ensures.steps.1 c.line_of.result c.line_of.ensures (laid_from 7 (cards_in c.args.text.now) c.args.out.now) c.loop-place.out c.put_card.new.out fields good c.loop-place.invariant.2 put in
+    let counted = lay_next c.args.count place left c.loop-place.invariant.3 c.in-Some.line.now others c.in-Some.ensures.steps.1 c.line_of.result c.line_of.ensures fields good in
+    ((tt, tt), tt, rw next turned, rw next counted, end, size)
 
 pub returns : goal.returns
-returns c = search (lay_end, rules)
+returns c =
+    let s = c.loop-place.place-iterator in
+    grind (arith, common_steps, lay_end c.args.count (zip_first s).start (lines_left (zip_second s)) c.loop-place.invariant.3, lay_none c.args.count (zip_first s).start (lines_left (zip_second s)) c.loop-place.invariant.3)
