@@ -4,15 +4,12 @@ use Rattle.std.specs.Prelude.{Option, Some, None, Result, Ok, Err}
 use Rattle.farthest.specs.declared.Leaders.{Leaders}
 use Rattle.refusals.specs.declared.SentBack.{SentBack}
 use Rattle.refusals.specs.Numbers.{refused_at}
-use Prim.Native.Nat.{ℕ, zero, suc, ◌+◌, ◌<◌, zero-le, suc-le-suc}
-use Rattle.std.proofs.Common.{le_of_suc-le-suc, not-suc-le-zero, arith, ◌∙◌, sym, ap₂, inl, inr, lt-ltb}
-use Rattle.std.specs.Prelude.{◌≡◌, Bool, not, List, [], ◌∷◌, ◌++◌, ◌⊎◌, eqb, ltb, length, get_or}
+use Prim.Native.Nat.{ℕ, zero, suc, ◌+◌, ◌<◌}
+use Rattle.std.proofs.Common.{arith, ◌∙◌, sym, inl, inr}
+use Rattle.std.specs.Prelude.{◌≡◌, Bool, List, [], ◌∷◌, ◌++◌, ◌⊎◌, ltb, length}
 use Rattle.std.proofs.Math.Path.{refl, ap, subst}
 use Rattle.std.proofs.Math.Bool.{true, false}
-use Rattle.std.proofs.Math.Dec.{leb-suc-zero, leb-suc-suc}
 use Rattle.std.proofs.lemmas.Bool.Decides.{nat_tests}
-use Rattle.search.specs.Rising.{both}
-use Rattle.search.specs.Laws.{clash, both_true}
 use Rattle.refusals.specs.declared.Refusal.{Refusal}
 use Rattle.refusals.specs.declared.Refusal.TheVariants as refusal
 use Rattle.header.specs.Header.{enough}
@@ -22,7 +19,7 @@ use Rattle.comma.specs.Line.{line_of}
 use Rattle.comma.specs.Text.{Cards, cards, bad, then, cards_from, cards_in, lines_of, bad_room, size_of, read_as, reading_of}
 use Rattle.write_lines.specs.Writing.{strict_text, answer_as, writing_of}
 use Rattle.conditions.specs.Conditions.{Condition, condition, only, conditions_at}
-use Rattle.conditions.specs.First.{passed, refused, pick, first_of, after, after_passed, first_append}
+use Rattle.conditions.specs.First.{passed, first_of, after_passed, first_append}
 use Rattle.line_conditions.specs.Lines.{malformed, bad_line, all_formed, no_room_to_read, no_room_to_write, room_at, lines_at, writing_at}
 use Rattle.conditions.specs.Claim.{ExactlyBy}
 use Rattle.conditions.proofs.Tables.{Passes, Refuses, exactly_by}

@@ -1,27 +1,25 @@
 -- What the tables of comma lines say in plain words: of the reader's 12 and 13, and of the writer's 4.
 -- Assumes nothing.
-use Rattle.std.specs.Prelude.{Option, Some, None, Ok, Err}
-use Rattle.fields.specs.declared.Fields.{Fields}
+use Rattle.std.specs.Prelude.{Ok, Err}
 use Rattle.refusals.specs.Numbers.{refused_at}
 use Prim.Native.Nat.{ℕ, zero, suc, ◌+◌, ◌*◌, ◌<◌}
-use Rattle.std.proofs.Common.{arith, ◌∙◌, sym, eqb-true, eq-eqb, ltb-true, lt-ltb}
-use Rattle.std.specs.Prelude.{◌≡◌, refl, Bool, true, false, not, List, [], ◌∷◌, map, ◌⊎◌, eqb, ltb, length, get_or, drop}
+use Rattle.std.proofs.Common.{arith, ◌∙◌, sym, eqb-true}
+use Rattle.std.specs.Prelude.{◌≡◌, refl, true, not, List, [], ◌∷◌, map, ◌⊎◌, eqb, length, get_or, drop}
 use Rattle.std.proofs.lemmas.Bool.Decides.{nat_tests}
 use Rattle.std.proofs.Math.Path.{ap, ap₂}
 use Rattle.std.proofs.Math.Logic.{inl, inr, ⊎_elim}
 use Rattle.search.specs.Rising.{both}
 use Rattle.search.specs.Laws.{clash, both_true}
-use Rattle.search.specs.Places.{either, every}
+use Rattle.search.specs.Places.{every}
 use Rattle.search.specs.PlaceLaws.{every_at}
 use Rattle.refusals.specs.declared.Refusal.{Refusal}
 use Rattle.refusals.specs.declared.Refusal.TheVariants as refusal
 use Rattle.refusals.specs.Numbers.{number_of}
-use Rattle.header.specs.Header.{enough, count_of, bad_count, bad_buffer}
-use Rattle.comma.specs.Line.{line_of}
+use Rattle.header.specs.Header.{enough, bad_count, bad_buffer}
 use Rattle.comma.specs.Text.{lines_of, bad_room, reading_of}
 use Rattle.conditions.specs.Conditions.{Condition, condition, only, of_register, of_card, conditions_at}
 use Rattle.conditions.specs.First.{Names}
-use Rattle.line_conditions.specs.Lines.{malformed, bad_line, all_formed, no_room_to_read, room_at, lines_at, writing_at}
+use Rattle.line_conditions.specs.Lines.{bad_line, all_formed, no_room_to_read, room_at, lines_at, writing_at}
 use Rattle.conditions.specs.Claim.{Holds, First, number_in}
 use Rattle.line_conditions.specs.LinesClaim.{BadLine, NamesFirst, ComesWhenBad, FoundLast, NeverFour}
 use Rattle.line_conditions.proofs.LinesExactly.{ends, bad_here, bad_behind, none_bad, not_formed, read_exactly, written_exactly}
