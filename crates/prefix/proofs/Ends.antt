@@ -6,6 +6,8 @@ use Rattle.refusals.specs.declared.SentBack.{SentBack}
 use Rattle.refusals.specs.Numbers.{refused_at}
 use Prim.Native.Nat.{ℕ, ◌+◌, ◌-◌, ◌*◌, ◌≤◌}
 use native.Mathlib.Omega.{arith}
+use Rattle.std.proofs.Common.{⊎_elim}
+use Rattle.std.proofs.lemmas.Bool.{cases_lt}
 use mathlib.Core.Path.{◌≡◌, ◌∙◌, refl, ap, sym, subst}
 use mathlib.Core.List.{List}
 use lib.ListN.{length, take, drop}
@@ -17,11 +19,8 @@ use Rattle.header.specs.Header.{enough, header_of}
 use Rattle.running.specs.declared.Running.{Running}
 use Rattle.running.specs.Running.{before_cards}
 use Rattle.running.proofs.Laws.{running_place}
-use Rattle.walk.specs.Walk.{nothing_of, walk_from, end_of}
+use Rattle.walk.specs.Walk.{nothing_of, walk_from}
 use Prim.Native.Nat.{min, ◌<◌}
-use mathlib.Core.Bool.{Bool, true, false}
-use lib.Dec.{ltb}
-use borrow.Author.Tests.{ltb-true, ltb-false}
 use Rattle.cards.specs.Register.{cards_from, cards_of}
 use Rattle.cards.proofs.Laws.{cards_count, behind_header, header_refused}
 use Rattle.cards.proofs.Walked.{Passed, passed, passed_leaders, stopped}
@@ -112,20 +111,12 @@ module _ (bytes : List ℕ) (k : ℕ) (h : Result ℕ Refusal) (e : h ≡ header
 
     -- the first k cards, or all there are
     pub fewer_cards : (m : ℕ) → m ≡ min k n → x ≡ result_after m (cards_from n 0 0 (take (length bytes - 7) (drop 7 bytes))) → x ≡ prefix_of bytes k
-    fewer_cards m least g = go (ltb k n) refl
-      where
-        after : ℕ → Result Leaders (SentBack ℕ)
-        after i = result_after i (cards_from n 0 0 (take (length bytes - 7) (drop 7 bytes)))
-
-        go : (t : Bool) → ltb k n ≡ t → x ≡ prefix_of bytes k
-        go true p =
-            let l : k < n = ltb-true k n p in
-            let z : m ≡ k = omega arith in
-            some_cards (g ∙ ap after z)
-        go false p =
-            let l : n ≤ k = ltb-false k n p in
-            let z : m ≡ n = omega arith in
-            every_card l (g ∙ ap after z)
+    fewer_cards m least g =
+        let after = λ (i : ℕ). result_after i (cards_from n 0 0 (take (length bytes - 7) (drop 7 bytes))) in
+        ⊎_elim
+        (λ (l : k < n). some_cards (g ∙ ap after (let z : m ≡ k = omega arith in z)))
+        (λ (l : n ≤ k). every_card l (g ∙ ap after (let z : m ≡ n = omega arith in z)))
+        (cases_lt k n)
 
 -- what equals the definition keeps the paper's words
 pub kept : (bytes : List ℕ) (k : ℕ) (x : Result Leaders (SentBack ℕ)) → x ≡ prefix_of bytes k → Keeps bytes k x

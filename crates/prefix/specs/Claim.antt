@@ -7,7 +7,6 @@ use Rattle.farthest.specs.declared.Leader.{Leader}
 use Rattle.refusals.specs.declared.Refusal.{Refusal}
 use Rattle.refusals.specs.declared.SentBack.{SentBack}
 use Rattle.farthest.specs.Farthest.{leader}
-use Rattle.refusals.specs.Numbers.{refused_at}
 use Rattle.buffer.specs.Numbers.{byte_at, four_at}
 use Rattle.units.specs.declared.Miles.{Miles}
 use Rattle.card.specs.declared.Class.{Class}
