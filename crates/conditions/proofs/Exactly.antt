@@ -4,25 +4,24 @@ use Rattle.std.specs.Prelude.{Result, Ok, Err}
 use Rattle.refusals.specs.declared.SentBack.{SentBack}
 use Rattle.refusals.specs.Numbers.{refused_at}
 use Prim.Native.Nat.{ℕ, zero, suc, ◌+◌, ◌*◌, ◌≤◌, ◌<◌}
-use Rattle.std.proofs.Common.{le_refl, not-suc-le-zero, ◌∙◌, sym, subst, inl, inr, ⊎_elim, drop-drop, lt-ltb, le-ltb}
+use Rattle.std.proofs.Common.{le_refl, ◌∙◌, sym, subst, inl, inr, ⊎_elim, drop-drop}
 use native.Mathlib.Omega.{arith}
-use Rattle.std.specs.Prelude.{◌≡◌, Bool, false, ◌⊎◌, eqb, ltb, drop}
+use Rattle.std.proofs.lemmas.Bool.{cases_eq, cases_lt}
+use Rattle.std.proofs.lemmas.Bool.Decides.{nat_tests}
+use Rattle.std.specs.Prelude.{◌≡◌, ◌⊎◌, ltb, drop}
 use Rattle.std.proofs.Math.Path.{refl, ap}
-use Rattle.std.proofs.Math.Bool.{true}
 use mathlib.Core.List.{List}
-use Rattle.search.specs.Laws.{lt_or_ge}
 use Rattle.refusals.specs.declared.Refusal.{Refusal}
-use Rattle.refusals.specs.declared.Refusal.TheVariants as refusal
 use Rattle.card.specs.declared.Answer.{Answer}
 use Rattle.card.specs.Number.{answer_number}
 use Rattle.card.specs.Answers.{answer_of}
 use Rattle.farthest.specs.declared.Leaders.{Leaders}
-use Rattle.header.specs.Header.{bad_length, bad_version, bad_count, bad_buffer, header_if, header_of, count_of}
+use Rattle.header.specs.Header.{header_of, count_of}
 use Rattle.cards.specs.Register.{Cards, answers, sent_back, joined, then, cards_from, cards_of, result_of, after_header, outcome_of}
 use Rattle.ordering.specs.Claim.{card_at}
 use Rattle.ordering.proofs.Found.{header_count}
 use Rattle.conditions.specs.Conditions.{Condition, only, of_register, of_card, number_before, conditions_at}
-use Rattle.conditions.specs.First.{Verdict, passed, refused, pick, first_of, after, first_append, first_here, first_elsewhere}
+use Rattle.conditions.specs.First.{Verdict, passed, refused, first_of, first_append, first_here, first_elsewhere}
 use Rattle.conditions.proofs.Cards.{verdict_of, card_verdict}
 use Rattle.conditions.specs.Claim.{RefusedExactly}
 use Rattle.conditions.proofs.Tables.{Passes, Refuses, exactly_by}
@@ -40,11 +39,8 @@ module _ (bytes : List ℕ) where
   Walked (sent_back r q) from n = (from ≤ q) × (q < from + n) × (at q ≡ refused r) × ((p : ℕ) → from ≤ p → p < q → at p ≡ passed)
 
   -- a card that passes in front of others
-  first_or_later : (from p : ℕ) → from ≤ p → (from ≡ p) ⊎ (suc from ≤ p)
-  first_or_later from p h = ⊎_elim (λ (l : from < p). inr l) (λ (l : p ≤ from). inl (let z : from ≡ p = omega arith in z)) (lt_or_ge from p)
-
   in_front_lem : (from : ℕ) → at from ≡ passed → (p : ℕ) → (suc from ≤ p → at p ≡ passed) → from ≤ p → at p ≡ passed
-  in_front_lem from here p rest h = ⊎_elim (λ (e : from ≡ p). subst (λ k. at k ≡ passed) e here) rest (first_or_later from p h)
+  in_front_lem from here p rest h = grind (arith, cases_eq from p)
 
   walked_on : (a : Answer) (c : Cards) (from n : ℕ) → at from ≡ passed → Walked c (suc from) n → Walked (joined a c) from (suc n)
   walked_on a (answers xs) from n here rest = λ p l h. in_front_lem from here p (λ m. rest p m (omega arith)) l
@@ -56,10 +52,8 @@ module _ (bytes : List ℕ) where
       let z : 7 + 24 * from + 24 ≡ 7 + 24 * suc from = omega arith in
       drop-drop 24 (7 + 24 * from) bytes ∙ ap (λ n. drop n bytes) z
 
-  verdict_at : (from last : ℕ) (x : Result Answer Refusal) → last ≡ number_before bytes from → answer_of (card_at bytes from) last ≡ x → at from ≡ verdict_of x
-  verdict_at from last x e q =
-      sym (card_verdict (card_at bytes from) (number_before bytes from))
-      ∙ (ap (λ k. verdict_of (answer_of (card_at bytes from) k)) (sym e) ∙ ap verdict_of q)
+  verdict_at : (from last : ℕ) → last ≡ number_before bytes from → at from ≡ verdict_of (answer_of (card_at bytes from) last)
+  verdict_at from last e = grind (arith, card_verdict (card_at bytes from) last)
 
   walked : (n from last : ℕ) → last ≡ number_before bytes from → Walked (cards_from n from last (drop (7 + 24 * from) bytes)) from n
   unfolding cards_from
@@ -70,11 +64,11 @@ module _ (bytes : List ℕ) where
       go : (x : Result Answer Refusal) → answer_of (card_at bytes from) last ≡ x → ((k : ℕ) → k ≡ number_before bytes (suc from) → Walked (cards_from n (suc from) k (drop (7 + 24 * suc from) bytes)) (suc from) n) → Walked (then x from (λ k. cards_from n (suc from) k (drop 24 (drop (7 + 24 * from) bytes)))) from (suc n)
       go (Ok a) q ih =
           walked_on a (cards_from n (suc from) a.number (drop 24 (drop (7 + 24 * from) bytes))) from n
-          (verdict_at from last (Ok a) e q)
+          (verdict_at from last e ∙ ap verdict_of q)
           (subst (λ (b : List ℕ). Walked (cards_from n (suc from) a.number b) (suc from) n) (sym (next from))
           (ih a.number (answer_number (card_at bytes from) last q)))
       go (Err r) q ih =
-          (le_refl from, omega arith, verdict_at from last (Err r) e q, λ p l h. absurd (omega arith))
+          (le_refl from, omega arith, verdict_at from last e ∙ ap verdict_of q, λ p l h. absurd (omega arith))
 
 -- ---- the whole register
 
@@ -84,14 +78,7 @@ header_verdict (Err r) = refused r
 
 header_verdict_lem : (bytes : List ℕ) (room : ℕ) → first_of (of_register bytes room) ≡ header_verdict (header_of bytes room)
 unfolding header_of of_register first_of
-header_verdict_lem bytes room = go (bad_length bytes) (bad_version bytes) (bad_count bytes) (bad_buffer bytes room)
-  where
-    go : (a b c d : Bool) → pick a refusal.Length (pick b refusal.Version (pick c refusal.Count (pick d refusal.Buffer passed))) ≡ header_verdict (header_if a refusal.Length (header_if b refusal.Version (header_if c refusal.Count (header_if d refusal.Buffer (Ok (count_of bytes))))))
-    go true b c d = refl
-    go false true c d = refl
-    go false false true d = refl
-    go false false false true = refl
-    go false false false false = refl
+header_verdict_lem bytes room = grind arith
 
 module _ (bytes : List ℕ) (room : ℕ) where
   -- what the table comes to at a place
@@ -101,31 +88,21 @@ module _ (bytes : List ℕ) (room : ℕ) where
   abbrev card_lines : ℕ → List Condition
   card_lines place = of_card (card_at bytes place) (number_before bytes place)
 
-  only_passes : (b : Bool) → first_of (of_register bytes room) ≡ passed → first_of (only b (of_register bytes room)) ≡ passed
-  only_passes true e = first_here (of_register bytes room) ∙ e
-  only_passes false e = first_elsewhere (of_register bytes room)
-
-  -- where 1 to 4 pass, a place comes to what its card does
+  -- where 1 to 4 pass, a place comes to what its card does, and where there is none to nothing
   place_lines : first_of (of_register bytes room) ≡ passed → (place : ℕ) → table place ≡ first_of (only (ltb place (count_of bytes)) (card_lines place))
   unfolding conditions_at
-  place_lines e place =
-      first_append (only (eqb place 0) (of_register bytes room)) (only (ltb place (count_of bytes)) (card_lines place))
-      ∙ ap (λ v. after v (first_of (only (ltb place (count_of bytes)) (card_lines place)))) (only_passes (eqb place 0) e)
+  place_lines e place = grind (arith, first_append, first_here, first_elsewhere)
 
   card_there : first_of (of_register bytes room) ≡ passed → (place : ℕ) → place < count_of bytes → table place ≡ at bytes place
-  card_there e place h =
-      place_lines e place ∙ (ap (λ t. first_of (only t (card_lines place))) (lt-ltb place (count_of bytes) h) ∙ first_here (card_lines place))
+  card_there e place h = grind (arith, nat_tests, place_lines e place, first_here (card_lines place))
 
   no_card : first_of (of_register bytes room) ≡ passed → (place : ℕ) → count_of bytes ≤ place → table place ≡ passed
-  no_card e place h =
-      place_lines e place ∙ (ap (λ t. first_of (only t (card_lines place))) (le-ltb place (count_of bytes) h) ∙ first_elsewhere (card_lines place))
+  no_card e place h = grind (arith, nat_tests, place_lines e place, first_elsewhere (card_lines place))
 
   -- 1 to 4 come before every card
   header_first : (r : Refusal) → first_of (of_register bytes room) ≡ refused r → table 0 ≡ refused r
   unfolding conditions_at
-  header_first r e =
-      first_append (only true (of_register bytes room)) (only (ltb 0 (count_of bytes)) (card_lines 0))
-      ∙ ap (λ v. after v (first_of (only (ltb 0 (count_of bytes)) (card_lines 0)))) (first_here (of_register bytes room) ∙ e)
+  header_first r e = grind (arith, first_append, first_here)
 
   -- what the call answers, in terms of the table
   abbrev pub Told : Result Leaders (SentBack ℕ) → Type 0
@@ -137,7 +114,7 @@ module _ (bytes : List ℕ) (room : ℕ) where
       ⊎_elim
       (λ (h : p < count_of bytes). card_there e p h ∙ w p (omega arith) (omega arith))
       (λ (h : count_of bytes ≤ p). no_card e p h)
-      (lt_or_ge p (count_of bytes))
+      (cases_lt p (count_of bytes))
   cards_told (sent_back r q) e w =
       let h : q < count_of bytes = omega (arith, w.1) in
       (card_there e q h ∙ w.2, λ p l. card_there e p (omega arith) ∙ w.3 p (omega arith) l)
@@ -146,10 +123,10 @@ module _ (bytes : List ℕ) (room : ℕ) where
   unfolding cards_of
   header_told (Ok n) e =
       let c : count_of bytes ≡ n = header_count bytes room n e in
-      cards_told (cards_from n 0 0 (drop 7 bytes)) (header_verdict_lem bytes room ∙ ap header_verdict e)
+      cards_told (cards_from n 0 0 (drop 7 bytes)) (grind (arith, header_verdict_lem bytes room, e))
       (subst (λ k. Walked bytes (cards_from n 0 0 (drop 7 bytes)) 0 k) (sym c) (walked bytes n 0 0 refl))
   header_told (Err r) e =
-      (header_first r (header_verdict_lem bytes room ∙ ap header_verdict e), λ p h. absurd (not-suc-le-zero h))
+      (header_first r (grind (arith, header_verdict_lem bytes room, e)), λ p h. absurd (omega arith))
 
   pub told : Told (outcome_of bytes room)
   unfolding outcome_of

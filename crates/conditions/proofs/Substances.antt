@@ -14,7 +14,7 @@ use Rattle.exhibits.specs.PrintedB1.{b1}
 use Rattle.exhibits.specs.PrintedB2.{b2}
 use Rattle.exhibits.specs.Exhibits.{gas_cas, liquid_cas, gas_in, liquid_in, factors_of, toxic_of}
 use Rattle.solutions.specs.Solutions.{bad_percent, solution_of}
-use Rattle.solutions.proofs.SolutionLaws.{Says, a_line, out_of_range, not_listed, says}
+use Rattle.solutions.proofs.SolutionLaws.{a_line, out_of_range, not_listed, says}
 use Rattle.fields.specs.Layout.{fields_of}
 use Rattle.ranges.specs.Ranges.{is_out_of_range}
 use Rattle.meaning.specs.Reading.{is_listed}
@@ -58,34 +58,22 @@ seen cas = go (among cas (map gas_cas b1)) (among cas (map liquid_cas b2)) refl 
 
 pub pure_listed : (card : List ℕ) → either (of_gas card) (of_liquid card) ≡ is_listed (toxic_of (fields_of card).cas)
 unfolding of_gas of_liquid
-pure_listed card = go (toxic_of (fields_of card).cas) (seen (fields_of card).cas)
-  where
-    go : (x : Toxic) → Seen (fields_of card).cas x → either (of_gas card) (of_liquid card) ≡ is_listed x
-    go _ (a_gas g p q) = ap₂ either p q
-    go _ (a_liquid l p q c) = ap₂ either p q
-    go _ (neither p q) = ap₂ either p q
+pure_listed card =
+    elim (seen (fields_of card).cas) as (λ x _. either (of_gas card) (of_liquid card) ≡ is_listed x)
+    [ a_gas _ p q ↦ ap₂ either p q | a_liquid _ p q _ ↦ ap₂ either p q | neither p q ↦ ap₂ either p q ]
 
 pub pure_in_range : (cas : ℕ) → is_out_of_range (toxic_of cas) ≡ false
-pure_in_range cas = go (toxic_of cas) (seen cas)
-  where
-    go : (x : Toxic) → Seen cas x → is_out_of_range x ≡ false
-    go _ (a_gas g p q) = refl
-    go _ (a_liquid l p q c) = refl
-    go _ (neither p q) = refl
+pure_in_range cas =
+    elim (seen cas) as (λ x _. is_out_of_range x ≡ false)
+    [ a_gas _ _ _ ↦ refl | a_liquid _ _ _ _ ↦ refl | neither _ _ ↦ refl ]
 
 pub solution_listed : (card : List ℕ) → of_solution card ≡ is_listed (solution_of (fields_of card).cas (fields_of card).heat)
 unfolding of_solution
-solution_listed card = go (solution_of (fields_of card).cas (fields_of card).heat) (says (fields_of card).cas (fields_of card).heat)
-  where
-    go : (x : Toxic) → Says (fields_of card).cas (fields_of card).heat x → of_solution card ≡ is_listed x
-    go _ (a_line (solution c t e a d p alt) l q r) = l
-    go _ (out_of_range l q) = l
-    go _ (not_listed l) = l
+solution_listed card =
+    elim (says (fields_of card).cas (fields_of card).heat) as (λ x _. of_solution card ≡ is_listed x)
+    [ a_line (solution _ _ _ _ _ _ _) l _ _ ↦ l | out_of_range l _ ↦ l | not_listed l ↦ l ]
 
 pub solution_range : (cas tenths : ℕ) → is_listed (solution_of cas tenths) ≡ true → is_out_of_range (solution_of cas tenths) ≡ bad_percent cas tenths
-solution_range cas tenths h = go (solution_of cas tenths) (says cas tenths) h
-  where
-    go : (x : Toxic) → Says cas tenths x → is_listed x ≡ true → is_out_of_range x ≡ bad_percent cas tenths
-    go _ (a_line (solution c t e a d p alt) l q r) h = sym q
-    go _ (out_of_range l q) h = sym q
-    go _ (not_listed l) h = clash (cc)
+solution_range cas tenths =
+    elim (says cas tenths) as (λ x _. is_listed x ≡ true → is_out_of_range x ≡ bad_percent cas tenths)
+    [ a_line (solution _ _ _ _ _ _ _) _ q _ ↦ λ _. sym q | out_of_range _ q ↦ λ _. sym q | not_listed _ ↦ λ h. clash (cc) ]

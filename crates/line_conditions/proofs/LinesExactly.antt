@@ -4,15 +4,12 @@ use Rattle.std.specs.Prelude.{Option, Some, None, Result, Ok, Err}
 use Rattle.farthest.specs.declared.Leaders.{Leaders}
 use Rattle.refusals.specs.declared.SentBack.{SentBack}
 use Rattle.refusals.specs.Numbers.{refused_at}
-use Prim.Native.Nat.{ℕ, zero, suc, ◌+◌, ◌<◌, zero-le, suc-le-suc}
-use Rattle.std.proofs.Common.{le_of_suc-le-suc, not-suc-le-zero, arith, ◌∙◌, sym, ap₂, inl, inr, lt-ltb}
-use Rattle.std.specs.Prelude.{◌≡◌, Bool, not, List, [], ◌∷◌, ◌++◌, ◌⊎◌, eqb, ltb, length, get_or}
+use Prim.Native.Nat.{ℕ, zero, suc, ◌+◌, ◌<◌}
+use Rattle.std.proofs.Common.{arith, ◌∙◌, sym, inl, inr}
+use Rattle.std.specs.Prelude.{◌≡◌, Bool, List, [], ◌∷◌, ◌++◌, ◌⊎◌, ltb, length}
 use Rattle.std.proofs.Math.Path.{refl, ap, subst}
 use Rattle.std.proofs.Math.Bool.{true, false}
-use Rattle.std.proofs.Math.Dec.{leb-suc-zero, leb-suc-suc}
-use Rattle.std.proofs.lemmas.Bool.{not-true}
-use Rattle.search.specs.Rising.{both}
-use Rattle.search.specs.Laws.{clash, both_true}
+use Rattle.std.proofs.lemmas.Bool.Decides.{nat_tests}
 use Rattle.refusals.specs.declared.Refusal.{Refusal}
 use Rattle.refusals.specs.declared.Refusal.TheVariants as refusal
 use Rattle.header.specs.Header.{enough}
@@ -22,7 +19,7 @@ use Rattle.comma.specs.Line.{line_of}
 use Rattle.comma.specs.Text.{Cards, cards, bad, then, cards_from, cards_in, lines_of, bad_room, size_of, read_as, reading_of}
 use Rattle.write_lines.specs.Writing.{strict_text, answer_as, writing_of}
 use Rattle.conditions.specs.Conditions.{Condition, condition, only, conditions_at}
-use Rattle.conditions.specs.First.{passed, refused, pick, first_of, after, after_passed, first_append}
+use Rattle.conditions.specs.First.{passed, first_of, after_passed, first_append}
 use Rattle.line_conditions.specs.Lines.{malformed, bad_line, all_formed, no_room_to_read, no_room_to_write, room_at, lines_at, writing_at}
 use Rattle.conditions.specs.Claim.{ExactlyBy}
 use Rattle.conditions.proofs.Tables.{Passes, Refuses, exactly_by}
@@ -52,18 +49,9 @@ module _ (table : ℕ → List Condition) where
   further full place = table place ++ room_at full place
 
   -- where 13 does not hold, a place comes to what it came to
-  silent : (place : ℕ) → first_of (room_at false place) ≡ passed
-  unfolding room_at only first_of
-  silent place = go (eqb place 0)
-    where
-      go : (here : Bool) → pick (both here false) refusal.Room passed ≡ passed
-      go true = refl
-      go false = refl
-
   as_before : (place : ℕ) → first_of (further false place) ≡ first_of (table place)
-  as_before place =
-      first_append (table place) (room_at false place)
-      ∙ (ap (after (first_of (table place))) (silent place) ∙ after_passed (first_of (table place)))
+  unfolding room_at only first_of
+  as_before place = grind (arith, first_append (table place) (room_at false place), after_passed)
 
   still_refuses : (r : Refusal) (place : ℕ) → Refuses table r place → Refuses (further false) r place
   still_refuses r place t = (as_before place ∙ t.0, λ p h. as_before p ∙ t.1 p h)
@@ -71,8 +59,7 @@ module _ (table : ℕ → List Condition) where
   -- where nothing else holds, 13 alone decides
   found_last : (full : Bool) (n : ℕ) → Passes table → Told (further full) (elim full as (λ _. Result ℕ (SentBack ℕ)) [ true ↦ Err (refused_at refusal.Room 0) | false ↦ Ok n ])
   unfolding room_at only first_of
-  found_last true n t =
-      (first_append (table 0) (room_at true 0) ∙ ap (λ v. after v (refused refusal.Room)) (t 0), λ p h. absurd (not-suc-le-zero h))
+  found_last true n t = (grind (arith, first_append (table 0) (room_at true 0), t 0), λ p h. absurd (omega arith))
   found_last false n t = λ p. as_before p ∙ t p
 
 -- ---- the reader
@@ -80,27 +67,23 @@ module _ (table : ℕ → List Condition) where
 -- a line's number, seen from the line before
 pub bad_here : (text : List ℕ) (rest : List (List ℕ)) → bad_line (text ∷ rest) 1 ≡ malformed (line_of text)
 unfolding bad_line
-bad_here text rest = ap (λ t. both t (malformed (line_of text))) (lt-ltb 0 (suc (length rest)) (suc-le-suc zero-le))
+bad_here text rest = grind (arith, nat_tests)
 
 pub bad_behind : (text : List ℕ) (rest : List (List ℕ)) (i : ℕ) → bad_line (text ∷ rest) (suc (suc i)) ≡ bad_line rest (suc i)
 unfolding bad_line
-bad_behind text rest i = ap (λ t. both t (malformed (line_of (get_or rest i [])))) (leb-suc-suc (suc i) (length rest))
+bad_behind text rest i = grind (arith, nat_tests)
 
 -- where all lines are well formed, none is bad
 pub none_bad : (lines : List (List ℕ)) → all_formed lines ≡ true → (number : ℕ) → bad_line lines number ≡ false
 unfolding all_formed bad_line
 none_bad lines e zero = refl
-none_bad [] e (suc i) = ap (λ t. both t (malformed (line_of (get_or [] i [])))) (leb-suc-zero i)
-none_bad (text ∷ rest) e (suc zero) = bad_here text rest ∙ not-true (malformed (line_of text)) (both_true (not (malformed (line_of text))) (all_formed rest) e).0
-none_bad (text ∷ rest) e (suc (suc i)) = bad_behind text rest i ∙ none_bad rest (both_true (not (malformed (line_of text))) (all_formed rest) e).1 (suc i)
+none_bad [] e (suc i) = grind (arith, nat_tests)
+none_bad (text ∷ rest) e (suc zero) = grind (arith, nat_tests)
+none_bad (text ∷ rest) e (suc (suc i)) = grind (arith, bad_behind text rest i, λ (h : all_formed rest ≡ true). none_bad rest h (suc i))
 
 -- so where one is bad, not all are well formed
 pub not_formed : (lines : List (List ℕ)) (number : ℕ) → bad_line lines number ≡ true → all_formed lines ≡ false
-not_formed lines number h = go (all_formed lines) refl
-  where
-    go : (t : Bool) → all_formed lines ≡ t → t ≡ false
-    go true e = let n = none_bad lines e number in clash (cc)
-    go false e = refl
+not_formed lines number h = grind (arith, none_bad lines)
 
 -- what lines come to: as many cards, or the first line that is bad
 abbrev Read : ℕ → List (List ℕ) → Cards → Type 0
@@ -114,37 +97,33 @@ read k (text ∷ rest) = go (line_of text) refl (cards_from (suc k) rest) (read 
   where
     -- a well-formed line in front of others
     over : (f : Fields) (n : ℕ) → line_of text ≡ Some f → ((p : ℕ) → p < n → bad_line rest (suc p) ≡ false) → (p : ℕ) → p < suc n → bad_line (text ∷ rest) (suc p) ≡ false
-    over f n e before zero h = bad_here text rest ∙ ap malformed e
-    over f n e before (suc p) h = bad_behind text rest p ∙ before p (le_of_suc-le-suc h)
+    over f n e before zero h = grind (arith, bad_here text rest, e)
+    over f n e before (suc p) h = grind (arith, bad_behind text rest p, before p)
 
     go : (l : Option Fields) → line_of text ≡ l → (c : Cards) → Read (suc k) rest c → Read k (text ∷ rest) (then l k c)
-    go (Some f) e (cards xs) t = (ap suc t.0, ap₂ (λ l a. both (not (malformed l)) a) e t.1)
+    go (Some f) e (cards xs) t = (ap suc t.0, grind (arith, e, t.1))
     go (Some f) e (bad j) t = (suc t.0, omega (arith, t.1), bad_behind text rest t.0 ∙ t.2, over f t.0 e t.3)
-    go None e c t = (0, omega arith, bad_here text rest ∙ ap malformed e, λ p h. absurd (not-suc-le-zero h))
+    go None e c t = (0, omega arith, bad_here text rest ∙ ap malformed e, λ p h. absurd (omega arith))
 
 module _ (text : List ℕ) where
   -- 12 alone
   abbrev line_at : ℕ → List Condition
   line_at place = condition refusal.Line (bad_line (lines_of text) place) ∷ []
 
-  line_passes : (place : ℕ) → bad_line (lines_of text) place ≡ false → first_of (line_at place) ≡ passed
-  unfolding first_of
-  line_passes place e = ap (λ t. pick t refusal.Line passed) e
-
   line_refuses : (i : ℕ) → bad_line (lines_of text) (suc i) ≡ true → ((p : ℕ) → p < i → bad_line (lines_of text) (suc p) ≡ false) → Refuses line_at refusal.Line (suc i)
   unfolding first_of bad_line
-  line_refuses i e before = (ap (λ t. pick t refusal.Line passed) e, earlier)
+  line_refuses i e before = (grind (arith, e), earlier)
     where
       earlier : (p : ℕ) → p < suc i → first_of (line_at p) ≡ passed
       earlier zero h = refl
-      earlier (suc p) h = line_passes (suc p) (before p (le_of_suc-le-suc h))
+      earlier (suc p) h = grind (arith, before p)
 
   reading_told : (room : ℕ) (c : Cards) → Read 1 (lines_of text) c → Told (further line_at (no_room_to_read (lines_of text) room)) (read_as c room)
-  unfolding no_room_to_read
+  unfolding no_room_to_read first_of
   reading_told room (cards xs) t =
       let e : no_room_to_read (lines_of text) room ≡ bad_room (length xs) room = cc in
       subst (λ full. Told (further line_at full) (read_as (cards xs) room)) (sym e)
-      (found_last line_at (bad_room (length xs) room) (size_of (length xs)) (λ p. line_passes p (none_bad (lines_of text) t.1 p)))
+      (found_last line_at (bad_room (length xs) room) (size_of (length xs)) (λ p. grind (arith, none_bad (lines_of text) t.1 p)))
   reading_told room (bad j) t =
       let e : no_room_to_read (lines_of text) room ≡ false = cc (not_formed (lines_of text) (suc t.0) t.2) in
       let n : suc t.0 ≡ j = omega (arith, t.1) in

@@ -1,94 +1,65 @@
 -- What the tables of comma lines say in plain words: of the reader's 12 and 13, and of the writer's 4.
 -- Assumes nothing.
-use Rattle.std.specs.Prelude.{Option, Some, None, Ok, Err}
-use Rattle.fields.specs.declared.Fields.{Fields}
+use Rattle.std.specs.Prelude.{Ok, Err}
 use Rattle.refusals.specs.Numbers.{refused_at}
 use Prim.Native.Nat.{ℕ, zero, suc, ◌+◌, ◌*◌, ◌<◌}
-use Rattle.std.proofs.Common.{arith, ◌∙◌, sym, eqb-true, eq-eqb, ltb-true, lt-ltb}
-use Rattle.std.specs.Prelude.{◌≡◌, refl, Bool, true, false, not, List, [], ◌∷◌, map, ◌⊎◌, eqb, ltb, length, get_or, drop}
+use Rattle.std.proofs.Common.{arith, ◌∙◌, sym, eqb-true}
+use Rattle.std.specs.Prelude.{◌≡◌, refl, true, not, List, [], ◌∷◌, map, ◌⊎◌, eqb, length, get_or, drop}
+use Rattle.std.proofs.lemmas.Bool.Decides.{nat_tests}
 use Rattle.std.proofs.Math.Path.{ap, ap₂}
 use Rattle.std.proofs.Math.Logic.{inl, inr, ⊎_elim}
 use Rattle.search.specs.Rising.{both}
 use Rattle.search.specs.Laws.{clash, both_true}
-use Rattle.search.specs.Places.{either, every}
+use Rattle.search.specs.Places.{every}
 use Rattle.search.specs.PlaceLaws.{every_at}
 use Rattle.refusals.specs.declared.Refusal.{Refusal}
 use Rattle.refusals.specs.declared.Refusal.TheVariants as refusal
 use Rattle.refusals.specs.Numbers.{number_of}
-use Rattle.header.specs.Header.{enough, count_of, bad_count, bad_buffer}
-use Rattle.comma.specs.Line.{line_of}
+use Rattle.header.specs.Header.{enough, bad_count, bad_buffer}
 use Rattle.comma.specs.Text.{lines_of, bad_room, reading_of}
 use Rattle.conditions.specs.Conditions.{Condition, condition, only, of_register, of_card, conditions_at}
 use Rattle.conditions.specs.First.{Names}
-use Rattle.line_conditions.specs.Lines.{malformed, bad_line, all_formed, no_room_to_read, room_at, lines_at, writing_at}
+use Rattle.line_conditions.specs.Lines.{bad_line, all_formed, no_room_to_read, room_at, lines_at, writing_at}
 use Rattle.conditions.specs.Claim.{Holds, First, number_in}
 use Rattle.line_conditions.specs.LinesClaim.{BadLine, NamesFirst, ComesWhenBad, FoundLast, NeverFour}
 use Rattle.line_conditions.proofs.LinesExactly.{ends, bad_here, bad_behind, none_bad, not_formed, read_exactly, written_exactly}
 
 -- ---- the tests, and what they say
 
-is_malformed : (l : Option Fields) → malformed l ≡ true → l ≡ None
-is_malformed (Some f) e = clash (cc)
-is_malformed None e = refl
-
 -- lines none of which is bad are all well formed
 all_formed_lem : (lines : List (List ℕ)) → ((number : ℕ) → bad_line lines number ≡ true → ⊥) → all_formed lines ≡ true
 unfolding all_formed bad_line
 all_formed_lem [] none = refl
-all_formed_lem (text ∷ rest) none = ap₂ both (front (malformed (line_of text)) refl) (all_formed_lem rest behind)
+all_formed_lem (text ∷ rest) none = grind (arith, nat_tests, all_formed_lem rest behind, none 1, bad_here text rest)
   where
-    front : (t : Bool) → malformed (line_of text) ≡ t → not t ≡ true
-    front true e = absurd (none 1 (bad_here text rest ∙ e))
-    front false e = refl
-
     behind : (number : ℕ) → bad_line rest number ≡ true → ⊥
     behind zero e = clash (cc)
     behind (suc i) e = none (suc (suc i)) (bad_behind text rest i ∙ e)
-
--- one of two tests passes exactly where the first does or the second
-either_side : (s t : Bool) → either s t ≡ true → (s ≡ true) ⊎ (t ≡ true)
-either_side true t e = inl refl
-either_side false t e = inr e
-
-either_true : (s t : Bool) → (s ≡ true) ⊎ (t ≡ true) → either s t ≡ true
-either_true true t h = refl
-either_true false t h = ⊎_elim (λ (e : false ≡ true). clash (cc)) (λ e. e) h
 
 -- over 2,000 lines, or a buffer too short for so many cards
 module _ (count room : ℕ) where
   over : bad_room count room ≡ true → (2_000 < count) ⊎ (room < 7 + 24 * count)
   unfolding bad_room
-  over e =
-      ⊎_elim
-      (λ h. inl (ltb-true 2_000 count h))
-      (λ h. inr (ltb-true room (7 + 24 * count) h))
-      (either_side (ltb 2_000 count) (ltb room (7 + 24 * count)) e)
+  over e = grind (arith, nat_tests)
 
   from_over : (2_000 < count) ⊎ (room < 7 + 24 * count) → bad_room count room ≡ true
   unfolding bad_room
-  from_over h =
-      either_true (ltb 2_000 count) (ltb room (7 + 24 * count))
-      (⊎_elim (λ l. inl (lt-ltb 2_000 count l)) (λ l. inr (lt-ltb room (7 + 24 * count) l)) h)
+  from_over h = grind (arith, nat_tests)
 
 -- a bad line, as the table and as the claim have it
 module _ (text : List ℕ) where
   to_bad : (number : ℕ) → bad_line (lines_of text) number ≡ true → BadLine text number
   unfolding bad_line
   to_bad zero e = clash (cc)
-  to_bad (suc i) e =
-      let h = both_true (ltb i (length (lines_of text))) (malformed (line_of (get_or (lines_of text) i []))) e in
-      (ltb-true i (length (lines_of text)) h.0, is_malformed (line_of (get_or (lines_of text) i [])) h.1)
+  to_bad (suc i) e = grind (arith, nat_tests)
 
   from_bad : (number : ℕ) → BadLine text number → bad_line (lines_of text) number ≡ true
   unfolding bad_line
   from_bad zero b = absurd b
-  from_bad (suc i) b = ap₂ (λ a l. both a (malformed l)) (lt-ltb i (length (lines_of text)) b.0) b.1
+  from_bad (suc i) b = grind (arith, nat_tests)
 
   none_there : all_formed (lines_of text) ≡ true → (number : ℕ) → BadLine text number → ⊥
-  none_there e number b =
-      let n = none_bad (lines_of text) e number in
-      let h = from_bad number b in
-      clash (cc)
+  none_there e number b = grind (arith, none_bad (lines_of text) e number, from_bad number b)
 
   all_there : ((number : ℕ) → BadLine text number → ⊥) → all_formed (lines_of text) ≡ true
   all_there none = all_formed_lem (lines_of text) (λ number h. none number (to_bad number h))
@@ -192,16 +163,11 @@ number_at (condition s b ∷ rest) (suc l) r n = number_at rest l r n
 -- where 32,000 bytes are under 16 × count, the count is above 2,000: 3 holds too
 three_too : (register : List ℕ) → bad_buffer register enough ≡ true → bad_count register ≡ true
 unfolding bad_buffer bad_count
-three_too register e =
-    either_true (ltb 2_000 (count_of register)) (not (eqb (length register) (7 + 24 * count_of register)))
-    (inl (lt-ltb 2_000 (count_of register) (omega (arith, ltb-true 32_000 (16 * count_of register) e))))
+three_too register e = grind (arith, nat_tests)
 
 -- none of some numbers is 4
 none_four : (numbers : List ℕ) → every (λ k. not (eqb k 4)) numbers ≡ true → (l : ℕ) → get_or numbers l 0 ≡ 4 → ⊥
-none_four numbers e l n =
-    let t = every_at (λ k. not (eqb k 4)) numbers 0 e refl l in
-    let u = eq-eqb (get_or numbers l 0) 4 n in
-    clash (cc)
+none_four numbers e l n = grind (arith, nat_tests, every_at (λ k. not (eqb k 4)) numbers 0 e refl l)
 
 pub never_four : NeverFour
 unfolding writing_at conditions_at only of_register of_card room_at

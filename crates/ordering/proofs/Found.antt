@@ -1,15 +1,15 @@
 -- What an accepted register's answers are: one for each card, each the answer of that card's bytes.
 -- Assumes nothing.
-use Rattle.std.specs.Prelude.{ℕ, zero, suc, ◌+◌, ◌*◌, ◌≤◌, ◌<◌, ◌≡◌, refl, Bool, true, false, List, [], ◌∷◌, take, drop, Result, Ok, Err}
+use Rattle.std.specs.Prelude.{ℕ, zero, suc, ◌+◌, ◌*◌, ◌≤◌, ◌<◌, ◌≡◌, refl, false, List, [], ◌∷◌, take, drop, Result, Ok, Err}
 use Rattle.refusals.specs.declared.Refusal.{Refusal}
-use Rattle.std.proofs.Common.{zero-le, suc-le-suc, arith, le_of_suc-le-suc, not-suc-le-zero, ◌∙◌, sym, ap, subst, drop-drop, le-ltb}
+use Rattle.std.proofs.Common.{zero-le, suc-le-suc, arith, le_of_suc-le-suc, not-suc-le-zero, ◌∙◌, sym, ap, subst, drop-drop}
+use Rattle.std.proofs.lemmas.Bool.Decides.{nat_tests}
 use Rattle.search.specs.Laws.{clash}
-use Rattle.refusals.specs.declared.Refusal.TheVariants as refusal
 use Rattle.card.specs.declared.Answer.{Answer}
 use Rattle.card.specs.Answers.{answer_of}
 use Rattle.farthest.specs.declared.Leaders.{Leaders}
 use Rattle.farthest.specs.Farthest.{At}
-use Rattle.header.specs.Header.{bad_length, bad_version, bad_count, bad_buffer, header_if, header_of, count_of}
+use Rattle.header.specs.Header.{bad_length, bad_version, bad_count, bad_buffer, header_of, count_of}
 use Rattle.cards.specs.Register.{Cards, answers, sent_back, then, cards_from, cards_of, result_of, after_header, outcome_of}
 use Rattle.cards.proofs.Laws.{joined_is}
 use Rattle.ordering.specs.Claim.{card_at}
@@ -71,32 +71,16 @@ pub record Checked (bytes : List ℕ) (room n : ℕ) : Type 0 where
 
 pub checked : (bytes : List ℕ) (room n : ℕ) → header_of bytes room ≡ Ok n → Checked bytes room n
 unfolding header_of
-checked bytes room n = go (bad_length bytes) (bad_version bytes) (bad_count bytes) (bad_buffer bytes room) refl refl refl refl
-  where
-    go : (a b c d : Bool) → bad_length bytes ≡ a → bad_version bytes ≡ b → bad_count bytes ≡ c → bad_buffer bytes room ≡ d
-        → header_if a refusal.Length (header_if b refusal.Version (header_if c refusal.Count (header_if d refusal.Buffer (Ok (count_of bytes))))) ≡ Ok n
-        → Checked bytes room n
-    go true b c d p q r s e = clash (cc)
-    go false true c d p q r s e = clash (cc)
-    go false false true d p q r s e = clash (cc)
-    go false false false true p q r s e = clash (cc)
-    go false false false false p q r s e = record { whole = p; version = q; cards = r; buffer = s; count = cc }
+checked bytes room n e =
+    record { whole = grind (arith, e); version = grind (arith, e); cards = grind (arith, e); buffer = grind (arith, e); count = grind (arith, e) }
 
 pub header_count : (bytes : List ℕ) (room n : ℕ) → header_of bytes room ≡ Ok n → count_of bytes ≡ n
 header_count bytes room n e = (checked bytes room n e).count
 
 -- acceptance and both farthest cards are the same with every buffer that number 4 lets pass
-any_header : (bytes : List ℕ) (room other : ℕ) (h : Result ℕ Refusal) {l : Leaders} → header_of bytes room ≡ h → 16 * count_of bytes ≤ other → after_header h bytes ≡ Ok l → after_header (header_of bytes other) bytes ≡ Ok l
-unfolding header_of bad_buffer
-any_header bytes room other (Ok n) p k e =
-    let c = checked bytes room n p in
-    let q : header_of bytes other ≡ Ok n = rw (c.whole, c.version, c.cards, le-ltb other (16 * count_of bytes) k) (ap Ok c.count) in
-    ap (λ y. after_header y bytes) q ∙ e
-any_header bytes room other (Err r) p k e = clash (cc)
-
 pub any_room : (bytes : List ℕ) (room other : ℕ) {l : Leaders} → outcome_of bytes room ≡ Ok l → 16 * count_of bytes ≤ other → outcome_of bytes other ≡ Ok l
-unfolding outcome_of
-any_room bytes room other e k = any_header bytes room other (header_of bytes room) refl k e
+unfolding outcome_of header_of bad_buffer
+any_room bytes room other e k = grind (arith, nat_tests, e)
 
 cards_found : (bytes : List ℕ) (n : ℕ) (c : Cards) {l : Leaders} → count_of bytes ≡ n → cards_of n bytes ≡ c → result_of c ≡ Ok l → Found bytes l
 unfolding cards_of

@@ -6,6 +6,8 @@ use Rattle.refusals.specs.declared.SentBack.{SentBack}
 use Rattle.refusals.specs.Numbers.{refused_at}
 use Prim.Native.Nat.{ℕ, ◌+◌, ◌*◌, ◌≤◌}
 use native.Mathlib.Omega.{arith}
+use Rattle.std.proofs.Common.{⊎_elim}
+use Rattle.std.proofs.lemmas.Bool.{cases_lt}
 use mathlib.Core.Path.{◌≡◌, ◌∙◌, refl, ap, ap₂, sym, subst}
 use mathlib.Core.List.{List, ◌++◌}
 use lib.ListN.{length, length-append, take, drop}
@@ -23,9 +25,6 @@ use Rattle.running.specs.Running.{before_cards}
 use Rattle.running.proofs.Laws.{running_place}
 use Rattle.walk.specs.Walk.{nothing_of, walk_from}
 use Prim.Native.Nat.{min, ◌<◌}
-use mathlib.Core.Bool.{Bool, true, false}
-use lib.Dec.{ltb}
-use borrow.Author.Tests.{ltb-true, ltb-false}
 use Rattle.cards.specs.Register.{cards_from}
 use Rattle.cards.proofs.Laws.{cards_count, good_cards, header_refused}
 use Rattle.cards.proofs.Walked.{Passed, passed, passed_leaders, stopped}
@@ -135,17 +134,11 @@ module _ (bytes : List ℕ) (k : ℕ) (h : Result ℕ Refusal) (e : h ≡ header
     -- the first k cards, or all there are
     pub fewer_cards : (m : ℕ) → m ≡ min k (length cards) → x ≡ result_after m (cards_from (length cards) 0 0 (concat cards)) → x ≡ prefix_of bytes k
     unfolding after
-    fewer_cards m least g = go (ltb k (length cards)) refl
-      where
-        go : (t : Bool) → ltb k (length cards) ≡ t → x ≡ prefix_of bytes k
-        go true p =
-            let v : k < length cards = ltb-true k (length cards) p in
-            let z : m ≡ k = omega arith in
-            g ∙ (ap after z ∙ good_is)
-        go false p =
-            let v : length cards ≤ k = ltb-false k (length cards) p in
-            let z : m ≡ length cards = omega arith in
-            g ∙ (ap after z ∙ (every_card v ∙ good_is))
+    fewer_cards m least g =
+        ⊎_elim
+        (λ (l : k < length cards). let z : m ≡ k = omega arith in g ∙ (ap after z ∙ good_is))
+        (λ (l : length cards ≤ k). let z : m ≡ length cards = omega arith in g ∙ (ap after z ∙ (every_card l ∙ good_is)))
+        (cases_lt k (length cards))
 
 -- what equals the definition keeps the paper's words
 pub kept : (bytes : List ℕ) (k : ℕ) (x : Result Leaders (SentBack ℕ)) → x ≡ prefix_of bytes k → Keeps bytes k x

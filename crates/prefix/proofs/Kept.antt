@@ -5,13 +5,11 @@ use Rattle.refusals.specs.declared.SentBack.{SentBack}
 use Rattle.farthest.specs.Farthest.{leader}
 use Rattle.refusals.specs.Numbers.{refused_at}
 use Rattle.std.proofs.Common.{zero-le, suc-le-suc, le_of_suc-le-suc, not-suc-le-zero, arith, ◌∙◌, sym, ap, subst, take_all}
-use Rattle.search.specs.Laws.{clash}
 use Rattle.units.specs.declared.Miles.{Miles}
 use Rattle.buffer.specs.Numbers.{four_at}
 use Rattle.fields.specs.Layout.{fields_of}
 use Rattle.refusals.specs.declared.Refusal.{Refusal}
 use Rattle.card.specs.declared.Class.{Class}
-use Rattle.card.specs.declared.Class.TheVariants as class
 use Rattle.card.specs.declared.Answer.{Answer}
 use Rattle.card.specs.Answers.{answer_of}
 use Rattle.ordering.specs.Order.{kind_of}
@@ -47,10 +45,7 @@ first_at (x ∷ xs) (suc k) (suc i) a w = let r = first_at xs k i a w in (suc-le
 -- ---- one card
 
 same_class : (c d : Class) → kind_of c ≡ kind_of d → c ≡ d
-same_class class.Toxic class.Toxic e = refl
-same_class class.Flammable class.Flammable e = refl
-same_class class.Toxic class.Flammable e = absurd (omega arith)
-same_class class.Flammable class.Toxic e = absurd (omega arith)
+same_class c d e = grind arith
 
 distance_is : (card : List ℕ) (last : ℕ) {a : Answer} → answer_of card last ≡ Ok a → distance_of card ≡ a.distance.0
 unfolding distance_of
@@ -127,29 +122,16 @@ module _ (c : Class) (bytes : List ℕ) (k : ℕ) {l : Leaders} (e : outcome_of 
 -- ---- the call
 
 -- of an accepted register the definition takes the leaders of the first k answers
-behind_good : (bytes : List ℕ) (k : ℕ) (h : Result ℕ Refusal) {l : Leaders} (f : Found bytes l) → header_of bytes enough ≡ h → after_header h bytes ≡ Ok l
-    → result_behind k h bytes ≡ Ok (leaders_of (take k f.list))
-unfolding cards_of
-behind_good bytes k (Ok n) f p e =
-    ap (λ m. result_after k (cards_from m 0 0 (drop 7 bytes))) (sym (header_count bytes enough n p)) ∙ ap (result_after k) f.cards
-behind_good bytes k (Err r) f p e = clash (cc)
-
 pub accepted_first : (bytes : List ℕ) (k : ℕ) {l : Leaders} (e : outcome_of bytes enough ≡ Ok l) → prefix_of bytes k ≡ Ok (leaders_of (take k (found bytes enough e).list))
-unfolding prefix_of outcome_of
-accepted_first bytes k e = behind_good bytes k (header_of bytes enough) (found bytes enough e) refl e
+unfolding prefix_of outcome_of cards_of
+accepted_first bytes k {l} e =
+    let f : Found bytes l = found bytes enough e in
+    grind (arith, f.cards, header_count bytes enough, e)
 
 -- one that is sent back gives its refusal
-cards_refused : (k : ℕ) (c : Cards) (r : Refusal) (place : ℕ) → result_of c ≡ Err (refused_at r place) → result_after k c ≡ Err (refused_at r place)
-cards_refused k (answers xs) r place e = clash (cc)
-cards_refused k (sent_back s p) r place e = e
-
 pub refused_first : (bytes : List ℕ) (k : ℕ) (r : Refusal) (place : ℕ) → outcome_of bytes enough ≡ Err (refused_at r place) → prefix_of bytes k ≡ Err (refused_at r place)
 unfolding prefix_of outcome_of
-refused_first bytes k r place = go (header_of bytes enough)
-  where
-    go : (h : Result ℕ Refusal) → after_header h bytes ≡ Err (refused_at r place) → result_behind k h bytes ≡ Err (refused_at r place)
-    go (Ok n) e = cards_refused k (cards_of n bytes) r place e
-    go (Err s) e = e
+refused_first bytes k r place e = grind (arith, e)
 
 -- the definition keeps the paper's words
 pub keeps : (bytes : List ℕ) (k : ℕ) → Keeps bytes k (prefix_of bytes k)

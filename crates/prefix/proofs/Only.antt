@@ -1,13 +1,10 @@
 -- The paper's words (`Claim.antt`) leave one answer: two leaders of a class that both keep them are the same.
 -- Assumes nothing.
-use Rattle.std.specs.Prelude.{ℕ, ◌≡◌, Bool, List, Option, Some, None}
+use Rattle.std.specs.Prelude.{ℕ, ◌<◌, ◌≡◌, List, Option, Some, None}
 use Rattle.farthest.specs.declared.Leader.{Leader}
 use Rattle.farthest.specs.Farthest.{leader}
 use Rattle.std.proofs.Common.{arith, ◌∙◌, sym, ap}
 use Rattle.std.proofs.Math.Path.{refl, ap₂}
-use Rattle.std.proofs.Math.Bool.{true, false}
-use Rattle.std.proofs.Math.Dec.{ltb}
-use borrow.Author.Tests.{ltb-true, ltb-false}
 use Rattle.units.specs.declared.Miles.{Miles}
 use Rattle.buffer.specs.Numbers.{four_at}
 use Rattle.card.specs.declared.Class.{Class}
@@ -33,12 +30,10 @@ module _ (c : Class) (register : List ℕ) (k : ℕ) where
     -- so neither stands before the other
     same_place : one.place ≡ other.place
     unfolding one other
-    same_place = go (ltb one.place other.place) (ltb other.place one.place) refl refl
-      where
-        go : (s t : Bool) → ltb one.place other.place ≡ s → ltb other.place one.place ≡ t → one.place ≡ other.place
-        go true t u v = absurd (omega (arith, same_miles, one.far, other.earlier one.place (ltb-true one.place other.place u) one.among))
-        go false true u v = absurd (omega (arith, same_miles, other.far, one.earlier other.place (ltb-true other.place one.place v) other.among))
-        go false false u v = omega (arith, ltb-false one.place other.place u, ltb-false other.place one.place v)
+    same_place =
+        let h : one.place < other.place → ⊥ = λ l. omega (arith, same_miles, one.far, other.earlier one.place l one.among) in
+        let k : other.place < one.place → ⊥ = λ l. omega (arith, same_miles, other.far, one.earlier other.place l other.among) in
+        omega arith
 
     same_card : Some (leader n d) ≡ Some (leader m e)
     unfolding one other
