@@ -8,13 +8,13 @@ use mathlib.Core.List.{List, [], ◌∷◌}
 use lib.ListN.{length, take, drop, length-drop, drop_of_length-le}
 use Rattle.pieces.specs.Pieces.{before, pieces}
 use Rattle.pieces.proofs.Laws.{before_take, behind, pieces_line}
-use Rattle.comma.specs.Stages.{taken_at}
+use Rattle.comma.specs.Stages.{taken_in}
 use Rattle.comma.specs.Text.{lines_of}
 use Rattle.question.specs.declared.Question.{Question}
 use Rattle.question.specs.Question.{asked_in, one_line, question_in}
 
 no_lines : asked_in [] ≡ question_in []
-unfolding asked_in taken_at before question_in lines_of pieces
+unfolding asked_in taken_in before question_in lines_of pieces
 no_lines = refl
 
 line_of_lem : (t : List ℕ) → 0 < length t → question_in t ≡ one_line (before 10 t ∷ lines_of (behind 10 t))
