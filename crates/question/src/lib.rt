@@ -33,7 +33,7 @@ fn asked_in(line: &[u8]) -> Option<Question>
 pub fn question_of(text: &[u8]) -> Option<Question>
     ensures { result ≡ question_in text.now }
 {
-    let end = pieces::end_of(text, 0, b'\n');
+    let end = pieces::end_of(text, b'\n');
     if end + 1 < text.len() {
         return None;
     }

@@ -15,7 +15,7 @@ pub fn take_field<R: Reads>(text: &[u8]) -> Option<(u32, &[u8])>
     ensures none { IfNone result (taken_in R.form text.now ≡ None) }
     ensures number_within { IfSome result (λ taken. taken.0 ≤ most_of R.form) }
 {
-    let end = pieces::end_of(text, 0, b',');
+    let end = pieces::end_of(text, b',');
     let behind = text.get(end + 1..)?;
     let number = read_number::value_in::<R>(&text[..end])?;
     Some((number, behind))

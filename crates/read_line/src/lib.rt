@@ -48,7 +48,7 @@ fn lasts_of(text: &[u8], codes: Codes, amounts: Amounts) -> Option<Fields>
     let (wall, rest) = read_field::take_field::<TwoBytes>(text)?;
     let (heat, rest) = read_field::take_tenths(rest, codes.state)?;
     let (number, remark) = read_field::take_field::<FourBytes>(rest)?;
-    if pieces::end_of(remark, 0, b',') < remark.len() {
+    if pieces::end_of(remark, b',') < remark.len() {
         return None;
     }
     Some(Fields {
