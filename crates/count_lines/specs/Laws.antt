@@ -17,10 +17,10 @@ use Rattle.count_lines.specs.Count.{count_from}
 -- ---- the lines of a text
 
 -- its first line, and the lines behind the line feed
-pub first_line : (text : List ℕ) (end : ℕ) → 0 < length text → end ≡ 0 + length (before 10 (drop 0 text)) → lines_of text ≡ take end text ∷ lines_of (drop (end + 1) text)
+pub first_line : (text : List ℕ) (end : ℕ) → 0 < length text → end ≡ length (before 10 text) → lines_of text ≡ take end text ∷ lines_of (drop (end + 1) text)
 unfolding lines_of
 first_line text end there e =
-    let size : length (before 10 text) ≡ end = omega (arith, e) in
+    let size : length (before 10 text) ≡ end = sym e in
     let place : suc (length (before 10 text)) ≡ end + 1 = omega (arith, e) in
     pieces_line 10 text there
     ∙ ap (λ (s : List ℕ). s ∷ pieces 10 [] (drop (suc (length (before 10 text))) text)) (sym (before_take 10 text) ∙ ap (λ (n : ℕ). take n text) size)

@@ -27,7 +27,7 @@ impl<'a> Iterator for Lines<'a> {
         if self.rest.is_empty() {
             return None;
         }
-        let end = pieces::end_of(self.rest, 0, b'\n');
+        let end = pieces::end_of(self.rest, b'\n');
         let line = &self.rest[..end];
         self.rest = self.rest.get(end + 1..).unwrap_or(&[]);
         Some(line)

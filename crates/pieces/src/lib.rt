@@ -1,18 +1,14 @@
-// A text between separators: where the piece that starts at a place ends.
+// A text between separators: where its first piece ends.
 #![tactic(auto)]
 
-ghost use Rattle.std.specs.Prelude.{◌≡◌, ◌+◌, ◌≤◌, length, drop};
+ghost use Rattle.std.specs.Prelude.{◌≡◌, ◌≤◌, length};
 ghost use Rattle.pieces.specs.Pieces.{before};
 
-// The place of the first separator from a place on, or the end of the text where there is none. A place behind the text is
-// its own.
-pub fn end_of(text: &[u8], at: usize, separator: u8) -> usize
-    ensures value { result ≡ at + length (before separator (drop at text.now)) }
-    ensures within { at ≤ length text.now → result ≤ length text.now }
+// The place of the first separator of a text, or the end of the text where there is none.
+pub fn end_of(text: &[u8], separator: u8) -> usize
+    ensures value { result ≡ length (before separator text.now) }
+    ensures within { result ≤ length text.now }
 {
-    let Some(rest) = text.get(at..) else {
-        return at;
-    };
-    let place = rest.iter().position(|&b| b == separator);
-    at + place.unwrap_or(rest.len())
+    let place = text.iter().position(|&b| b == separator);
+    place.unwrap_or(text.len())
 }

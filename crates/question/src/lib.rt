@@ -19,9 +19,9 @@ pub struct Question {
 fn asked_in(line: &[u8]) -> Option<Question>
     ensures { result ≡ asked_in line.now }
 {
-    let (rate, second) = read_field::take_field::<FourBytes>(line, 0)?;
-    let (minutes, third) = read_field::take_field::<FourBytes>(line, second)?;
-    let card = read_line::line_of(&line[third..])?;
+    let (rate, rest) = read_field::take_field::<FourBytes>(line)?;
+    let (minutes, rest) = read_field::take_field::<FourBytes>(rest)?;
+    let card = read_line::line_of(rest)?;
     Some(Question {
         rate,
         minutes,
@@ -33,7 +33,7 @@ fn asked_in(line: &[u8]) -> Option<Question>
 pub fn question_of(text: &[u8]) -> Option<Question>
     ensures { result ≡ question_in text.now }
 {
-    let end = pieces::end_of(text, 0, b'\n');
+    let end = pieces::end_of(text, b'\n');
     if end + 1 < text.len() {
         return None;
     }

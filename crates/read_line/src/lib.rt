@@ -1,9 +1,9 @@
 // The reader of one comma line: its eleven fields read into the fields of a card, or found not well formed.
 #![tactic(auto)]
 
-ghost use Rattle.std.specs.Prelude.{◌≡◌, drop};
-ghost use Rattle.comma.specs.Line.{fields_in, lasts_in, line_of};
-ghost use Rattle.comma.specs.Stages.{CodesTold, AmountsTold};
+ghost use Rattle.std.specs.Prelude.{◌≡◌, IfNone, IfSome, None};
+ghost use Rattle.comma.specs.Line.{fields_in, codes_in, lasts_in, line_of};
+ghost use Rattle.comma.specs.Stages.{CodesTold, AmountsTold, NoAmounts};
 
 use comma::{Amounts, Codes};
 use fields::Fields;
@@ -12,41 +12,43 @@ use read_number::{Cas, FourBytes, OneByte, TwoBytes};
 // "A line is at most 200 bytes"
 const LONGEST: usize = 200;
 
-// Kind, state, ground and containment, from the start of the line, and where the next field starts.
-fn codes_of(line: &[u8]) -> Option<(Codes, usize)>
-    ensures { CodesTold line.now result }
+// Kind, state, ground and containment, and what is left of the line behind them.
+fn codes_of(line: &[u8]) -> Option<(Codes, &[u8])>
+    ensures some { IfSome result (λ told. CodesTold line.now told.0 told.1.now) }
+    ensures none { IfNone result (codes_in (fields_in line.now) ≡ None) }
 {
-    let (kind, second) = read_field::take_field::<OneByte>(line, 0)?;
-    let (state, third) = read_field::take_field::<OneByte>(line, second)?;
-    let (topography, fourth) = read_field::take_field::<OneByte>(line, third)?;
-    let (containment, next) = read_field::take_field::<OneByte>(line, fourth)?;
+    let (kind, rest) = read_field::take_field::<OneByte>(line)?;
+    let (state, rest) = read_field::take_field::<OneByte>(rest)?;
+    let (topography, rest) = read_field::take_field::<OneByte>(rest)?;
+    let (containment, rest) = read_field::take_field::<OneByte>(rest)?;
     let codes = Codes {
         kind: kind as u8,
         state: state as u8,
         topography: topography as u8,
         containment: containment as u8,
     };
-    Some((codes, next))
+    Some((codes, rest))
 }
 
-// CAS number, pounds and area, and where the next field starts.
-fn amounts_at(line: &[u8], at: usize) -> Option<(Amounts, usize)>
-    ensures { AmountsTold line.now at result }
+// CAS number, pounds and area, from what is left of a line, and what is left behind them.
+fn amounts_of(text: &[u8]) -> Option<(Amounts, &[u8])>
+    ensures some { IfSome result (λ told. AmountsTold text.now told.0 told.1.now) }
+    ensures none { IfNone result (NoAmounts text.now) }
 {
-    let (cas, second) = read_field::take_field::<Cas>(line, at)?;
-    let (pounds, third) = read_field::take_field::<FourBytes>(line, second)?;
-    let (area, next) = read_field::take_field::<FourBytes>(line, third)?;
-    Some((Amounts { cas, pounds, area }, next))
+    let (cas, rest) = read_field::take_field::<Cas>(text)?;
+    let (pounds, rest) = read_field::take_field::<FourBytes>(rest)?;
+    let (area, rest) = read_field::take_field::<FourBytes>(rest)?;
+    Some((Amounts { cas, pounds, area }, rest))
 }
 
 // Wall, temperature or concentration, and card number, and the remark, which is the last field and is dropped.
-fn lasts_at(line: &[u8], at: usize, codes: Codes, amounts: Amounts) -> Option<Fields>
-    ensures { result ≡ lasts_in codes amounts (fields_in (drop at line.now)) }
+fn lasts_of(text: &[u8], codes: Codes, amounts: Amounts) -> Option<Fields>
+    ensures { result ≡ lasts_in codes amounts (fields_in text.now) }
 {
-    let (wall, second) = read_field::take_field::<TwoBytes>(line, at)?;
-    let (heat, third) = read_field::take_tenths(line, second, codes.state)?;
-    let (number, remark) = read_field::take_field::<FourBytes>(line, third)?;
-    if pieces::end_of(line, remark, b',') < line.len() {
+    let (wall, rest) = read_field::take_field::<TwoBytes>(text)?;
+    let (heat, rest) = read_field::take_tenths(rest, codes.state)?;
+    let (number, remark) = read_field::take_field::<FourBytes>(rest)?;
+    if pieces::end_of(remark, b',') < remark.len() {
         return None;
     }
     Some(Fields {
@@ -70,7 +72,7 @@ pub fn line_of(line: &[u8]) -> Option<Fields>
     if LONGEST < line.len() {
         return None;
     }
-    let (codes, second) = codes_of(line)?;
-    let (amounts, third) = amounts_at(line, second)?;
-    lasts_at(line, third, codes, amounts)
+    let (codes, rest) = codes_of(line)?;
+    let (amounts, rest) = amounts_of(rest)?;
+    lasts_of(rest, codes, amounts)
 }

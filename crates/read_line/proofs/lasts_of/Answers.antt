@@ -1,10 +1,10 @@
--- `read_line::lasts_at` meets its contract: three fields, and one behind them without a comma.
+-- `read_line::lasts_of` meets its contract: three fields, and one behind them without a comma.
 -- Assumes nothing.
 use Rattle.std.proofs.Common.{arith}
 use Rattle.std.proofs.lemmas.Grind.{common_steps}
 use Rattle.comma.specs.Line.{lasts_in}
 use Rattle.comma.proofs.StageLaws.{taken_next, remark_is, remark_not}
-use Rattle.read_line.proofs.lasts_at.Goals as goal
+use Rattle.read_line.proofs.lasts_of.Goals as goal
 
 pub returns-in_err-wall : goal.returns-in_err-wall
 unfolding lasts_in
@@ -18,9 +18,9 @@ pub returns-in_err-number : goal.returns-in_err-number
 unfolding lasts_in
 returns-in_err-number c = grind (arith, common_steps, taken_next)
 
-pub returns-then-end_of-line : goal.returns-then-end_of-line
+pub returns-then-end_of-remark : goal.returns-then-end_of-remark
 unfolding lasts_in
-returns-then-end_of-line c = grind (arith, common_steps, taken_next, remark_not)
+returns-then-end_of-remark c = grind (arith, common_steps, taken_next, remark_not)
 
 pub returns : goal.returns
 unfolding lasts_in
