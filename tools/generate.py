@@ -659,10 +659,10 @@ def rt_constant(comment, name, kind, struct, arrays):
 ARM_INDENT = 8
 
 
-def rt_match(comment, signature, ensures, key, arms, other):
+def rt_match(comment, signature, ensures, key, arms, other, tactic=()):
     """A function that is a table: an arm for each key, which is the triple of a comment above it, or None, its key and value."""
     margin = " " * ARM_INDENT
-    lines = [f"// {comment}", f"pub fn {signature}", f"    ensures {{ {ensures} }}", "{", f"    match {key} {{"]
+    lines = [f"// {comment}", *tactic, f"pub fn {signature}", f"    ensures {{ {ensures} }}", "{", f"    match {key} {{"]
     for note, number, value in arms:
         if note:
             lines.append(f"{margin}// {note}")
@@ -680,6 +680,14 @@ def answers_proof(crate, module, function, why, imports, unfolding, answers):
     for name, proof in answers:
         lines += ["", f"pub {name} : goal.{name}", f"unfolding {unfolding}", f"{name} c = {proof}"]
     return "\n".join(lines) + "\n"
+
+
+def arms_tactic(unfolding, last):
+    """By what the check proves an `rt_match` alone: an arm's value is computed from the printed lists at the arm's own key, and the
+    law of the name says what is there for a number that no arm has."""
+    words = ", ".join(f"crate::specs::{word}" for word in unfolding)
+    return (f"#[tactic(auto, unfolding({words}, search::specs::Places::look_up), "
+            f"using(search::specs::Arms::arm, crate::proofs::Laws::{last}))]",)
 
 
 # What is known in the last arm of a `match`, and the name of its goal.
@@ -718,7 +726,9 @@ def exhibit_lines(gases, liquids, factors):
     return rt_file(
         "data/b1.tsv, b2.tsv and b4.tsv",
         [rt_match("What the exhibits say of a CAS number: Exhibit B-1, then B-2 with its factors of B-4, in the printed order.",
-                  "toxic_of(cas: u32) -> Toxic", "result ≡ toxic_of cas", "cas", arms, "Toxic::NotListed")],
+                  "toxic_of(cas: u32) -> Toxic", "result ≡ toxic_of cas", "cas", arms, "Toxic::NotListed",
+                  arms_tactic(("Exhibits::toxic_of", "Exhibits::factors_of", "PrintedB1::b1", "PrintedB2::b2", "PrintedB4::b4"),
+                              "no_line"))],
         ["ghost use Rattle.std.specs.Prelude.{◌≡◌};", "ghost use Rattle.exhibits.specs.Exhibits.{toxic_of};"],
         ["use crate::{Cell, Corrections, Gas, Liquid, Plume, Toxic};"])
 
@@ -747,17 +757,6 @@ def solution_lines(solutions):
                   "solution_of(cas: u32, tenths: u16) -> Toxic", "result ≡ solution_of cas tenths", "cas", arms, "Toxic::NotListed")],
         ["ghost use Rattle.std.specs.Prelude.{◌≡◌};", "ghost use Rattle.solutions.specs.Solutions.{solution_of};"],
         ["use exhibits::{Plume, Solution, Toxic};"])
-
-
-def exhibit_proof(gases, liquids):
-    return arms_proof(
-        "exhibits", "toxic_of",
-        ["use mathlib.Core.Path.{refl}", "use Rattle.search.specs.Arms.{arm}", "use Rattle.search.specs.Places.{look_up}",
-         "use Rattle.exhibits.specs.PrintedB1.{b1}", "use Rattle.exhibits.specs.PrintedB2.{b2}",
-         "use Rattle.exhibits.specs.PrintedB4.{b4}", "use Rattle.exhibits.specs.Exhibits.{factors_of, toxic_of}",
-         "use Rattle.exhibits.proofs.Laws.{no_line}"],
-        "toxic_of look_up factors_of b1 b2 b4", "toxic_of", [x["cas"] for x in gases + liquids],
-        f"no_line _ {DEFAULT_KNOWN}")
 
 
 def solution_proof(solutions):
@@ -868,17 +867,9 @@ def heat_lines(flammables):
         rt_match("The heat of combustion of a flammable substance by its CAS number, in kilojoules per kilogram: Exhibit C-1, in the\n"
                  "// printed order; none for a substance that it does not list.",
                  "heat_of(cas: u32) -> Option<u32>", "result ≡ heat_of cas", "cas",
-                 [(x["name"], x["cas"], f"Some({x['heat']})") for x in flammables], "None"),
+                 [(x["name"], x["cas"], f"Some({x['heat']})") for x in flammables], "None",
+                 arms_tactic(("Heats::heat_of", "PrintedC1::c1"), "no_heat")),
     ], ["ghost use Rattle.std.specs.Prelude.{◌≡◌};", "ghost use Rattle.combustion.specs.Heats.{heat_of};"])
-
-
-def heat_proof(flammables):
-    return arms_proof(
-        "combustion", "heat_of",
-        ["use mathlib.Core.Path.{refl}", "use Rattle.search.specs.Arms.{arm}", "use Rattle.search.specs.Places.{look_up}",
-         "use Rattle.combustion.specs.PrintedC1.{c1}", "use Rattle.combustion.specs.Heats.{heat_of}",
-         "use Rattle.combustion.proofs.Laws.{no_heat}"],
-        "heat_of look_up c1", "heat_of", [x["cas"] for x in flammables], f"no_heat _ {DEFAULT_KNOWN}")
 
 
 # ---- All together ----
@@ -900,7 +891,6 @@ def generated_files():
         "crates/exhibits/specs/PrintedB2.antt": printed_b2(liquids),
         "crates/exhibits/specs/PrintedB4.antt": printed_b4(factors),
         "crates/exhibits/src/tables.rt": exhibit_lines(gases, liquids, factors),
-        "crates/exhibits/proofs/tables/toxic_of/Answers.antt": exhibit_proof(gases, liquids),
         "crates/solutions/specs/PrintedB3.antt": printed_b3(solutions),
         "crates/solutions/src/tables.rt": solution_lines(solutions),
         "crates/solutions/proofs/tables/solution_of/Answers.antt": solution_proof(solutions),
@@ -918,7 +908,6 @@ def generated_files():
         "crates/likely_tables/src/tables.rt": likely_chemical_constants(likely_chemical),
         "crates/combustion/specs/PrintedC1.antt": printed_c1(flammables),
         "crates/combustion/src/tables.rt": heat_lines(flammables),
-        "crates/combustion/proofs/tables/heat_of/Answers.antt": heat_proof(flammables),
         "crates/rate_gap/specs/Vectors.antt": rate_vectors(read_rate_lines()),
     }
 

@@ -4,6 +4,7 @@ ghost use Rattle.combustion.specs.Heats.{heat_of};
 
 // The heat of combustion of a flammable substance by its CAS number, in kilojoules per kilogram: Exhibit C-1, in the
 // printed order; none for a substance that it does not list.
+#[tactic(auto, unfolding(crate::specs::Heats::heat_of, crate::specs::PrintedC1::c1, search::specs::Places::look_up), using(search::specs::Arms::arm, crate::proofs::Laws::no_heat))]
 pub fn heat_of(cas: u32) -> Option<u32>
     ensures { result ≡ heat_of cas }
 {

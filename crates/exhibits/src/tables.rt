@@ -5,6 +5,7 @@ ghost use Rattle.exhibits.specs.Exhibits.{toxic_of};
 use crate::{Cell, Corrections, Gas, Liquid, Plume, Toxic};
 
 // What the exhibits say of a CAS number: Exhibit B-1, then B-2 with its factors of B-4, in the printed order.
+#[tactic(auto, unfolding(crate::specs::Exhibits::toxic_of, crate::specs::Exhibits::factors_of, crate::specs::PrintedB1::b1, crate::specs::PrintedB2::b2, crate::specs::PrintedB4::b4, search::specs::Places::look_up), using(search::specs::Arms::arm, crate::proofs::Laws::no_line))]
 pub fn toxic_of(cas: u32) -> Toxic
     ensures { result ≡ toxic_of cas }
 {
