@@ -2,8 +2,7 @@
 -- Assumes nothing.
 use Rattle.std.specs.Prelude.{Some, None, Result, Ok, Err}
 use Rattle.refusals.specs.declared.SentBack.{SentBack}
-use Rattle.refusals.specs.Numbers.{refused_at}
-use Prim.Native.Nat.{ℕ, ◌+◌, ◌*◌, ◌≤◌, ◌<◌}
+use Prim.Native.Nat.{ℕ, ◌*◌, ◌≤◌, ◌<◌}
 use native.Mathlib.Omega.{arith}
 use mathlib.Core.Path.{◌≡◌, ◌∙◌, ap, sym, subst}
 use mathlib.Core.List.{List, ◌++◌, append_assoc}
@@ -12,7 +11,6 @@ use lib.Seq.{sets, length-take-le, drop-append-le}
 use Rattle.std.specs.List.{concat}
 use Rattle.buffer.specs.Numbers.{two_at}
 use borrow.Author.Tests.{lt-ltb, le-ltb}
-use Rattle.refusals.specs.declared.Refusal.{Refusal}
 use Rattle.refusals.specs.Numbers.{number_of}
 use Rattle.farthest.specs.declared.Leaders.{Leaders}
 use Rattle.header.specs.Header.{enough, header_of}

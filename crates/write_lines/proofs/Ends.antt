@@ -1,16 +1,12 @@
 -- How many cards an accepted register has, and that their text is the register's.
 -- Assumes nothing.
-use Rattle.std.specs.Prelude.{ℕ, ◌+◌, ◌*◌, ◌≤◌, ◌≡◌, refl, Bool, true, false, List, length, drop, Result, Ok}
+use Rattle.std.specs.Prelude.{ℕ, ◌+◌, ◌*◌, ◌≤◌, ◌≡◌, List, length, drop, Result, Ok}
 use Rattle.std.specs.List.{concat}
 use Rattle.std.proofs.Common.{arith, ◌∙◌, sym, ap₂}
-use Rattle.search.specs.Laws.{clash}
 use Rattle.buffer.specs.Numbers.{two_at}
-use Rattle.refusals.specs.declared.Refusal.{Refusal}
-use Rattle.refusals.specs.declared.Refusal.TheVariants as refusal
 use Rattle.refusals.specs.declared.SentBack.{SentBack}
 use Rattle.farthest.specs.declared.Leaders.{Leaders}
-use Rattle.header.specs.Header.{enough, count_of, bad_length, bad_version, bad_count, bad_buffer, header_if, header_of, Fitting}
-use Rattle.header.proofs.Ends.{header_fits}
+use Rattle.header.specs.Header.{enough, Fitting}
 use Rattle.cards.specs.Register.{outcome_of}
 use Rattle.cards.proofs.Laws.{accepted_fits}
 use Rattle.strict_lines.specs.Walk.{lines_to}
