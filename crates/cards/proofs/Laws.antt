@@ -5,7 +5,7 @@ use Rattle.std.specs.List.{concat}
 use Rattle.farthest.specs.declared.Leaders.{Leaders}
 use Rattle.refusals.specs.declared.SentBack.{SentBack}
 use Rattle.refusals.specs.Numbers.{refused_at}
-use Rattle.std.proofs.Common.{arith, ◌∙◌, sym, subst, ap₂, length-append}
+use Rattle.std.proofs.Common.{arith, ◌∙◌, sym, ap₂, length-append}
 use Rattle.std.proofs.Math.Path.{ap}
 use Rattle.buffer.specs.Numbers.{two_at}
 use Rattle.search.specs.Laws.{clash}
@@ -14,8 +14,8 @@ use Rattle.card.specs.declared.Answer.{Answer}
 use Rattle.card.specs.Answers.{answer_of}
 use Rattle.encode.specs.Bytes.{answer_bytes}
 use Rattle.encode.specs.Laws.{length_answer}
-use Rattle.header.specs.Header.{header_of, HeaderFits, Fitting}
-use Rattle.header.proofs.Ends.{header_count}
+use Rattle.header.specs.Header.{header_of, Fitting}
+use Rattle.header.proofs.Ends.{header_count, header_fitting}
 use Rattle.cards.specs.Register.{Cards, answers, sent_back, joined, then, cards_from, cards_of, result_of, after_header, outcome_of, bytes_of, filled_with, filled_after, buffer_of}
 
 -- where one answer more in front gives cards that are all answered, the cards behind it are
@@ -53,28 +53,25 @@ module _ (bytes : List ℕ) (room : ℕ) (h : Result ℕ Refusal) (e : h ≡ hea
   unfolding outcome_of
   header_refused r q = ap (λ y. after_header y bytes) (sym q ∙ e)
 
-  module _ (f : HeaderFits bytes room h) (n : ℕ) (q : h ≡ Ok n) where
-    fits : Fitting bytes room n
-    fits = subst (HeaderFits bytes room) q f
-
-    count_is : n ≡ two_at bytes 5
-    count_is = header_count bytes room n (sym e ∙ q)
+  module _ (n : ℕ) (q : h ≡ Ok n) where
+    fits : Fitting bytes room (two_at bytes 5)
+    fits = header_fitting bytes room n (sym e ∙ q)
 
     pub good_header : length bytes ≡ 7 + 24 * two_at bytes 5
-    good_header = omega (arith, fits.register, count_is)
+    good_header = fits.register
 
     module _ (cards : List (List ℕ)) (k : length cards ≡ two_at bytes 5) where
       pub good_count : length cards ≤ 2_000
-      good_count = omega (arith, fits.cards, count_is)
+      good_count = omega (arith, fits.cards)
 
       pub good_answers : 16 * length cards ≤ room
-      good_answers = omega (arith, fits.answers, count_is)
+      good_answers = omega (arith, fits.answers)
 
       module _ (b : concat cards ≡ drop 7 bytes) where
         -- the cards of the register, as the code has them
         pub good_cards : cards_from (length cards) 0 0 (concat cards) ≡ cards_of n bytes
         unfolding cards_of
-        good_cards = ap₂ (λ m rest. cards_from m 0 0 rest) (k ∙ sym count_is) b
+        good_cards = ap₂ (λ m rest. cards_from m 0 0 rest) (k ∙ sym (header_count bytes room n (sym e ∙ q))) b
 
         pub header_good : (r : Result Leaders (SentBack ℕ)) → r ≡ result_of (cards_from (length cards) 0 0 (concat cards)) → r ≡ outcome_of bytes room
         unfolding outcome_of
@@ -88,8 +85,21 @@ module _ (bytes out : List ℕ) (h : Result ℕ Refusal) (e : h ≡ header_of by
   unfolding buffer_of
   header_kept r q = ap (λ y. filled_after y bytes out) (sym q ∙ e)
 
-  pub header_filled : (f : HeaderFits bytes (length out) h) (n : ℕ) (q : h ≡ Ok n) (cards : List (List ℕ)) → length cards ≡ two_at bytes 5 → concat cards ≡ drop 7 bytes
+  pub header_filled : (n : ℕ) (q : h ≡ Ok n) (cards : List (List ℕ)) → length cards ≡ two_at bytes 5 → concat cards ≡ drop 7 bytes
       → (after : List ℕ) → after ≡ filled_with (cards_from (length cards) 0 0 (concat cards)) out → after ≡ buffer_of bytes out
   unfolding buffer_of
-  header_filled f n q cards k b after g =
-      g ∙ (ap (λ c. filled_with c out) (good_cards bytes (length out) h e f n q cards k b) ∙ ap (λ y. filled_after y bytes out) (sym q ∙ e))
+  header_filled n q cards k b after g =
+      g ∙ (ap (λ c. filled_with c out) (good_cards bytes (length out) h e n q cards k b) ∙ ap (λ y. filled_after y bytes out) (sym q ∙ e))
+
+-- a register that is accepted has a good header
+module _ (bytes : List ℕ) (room : ℕ) (l : Leaders) (e : outcome_of bytes room ≡ Ok l) where
+  pub accepted_header : (n : ℕ) × (header_of bytes room ≡ Ok n)
+  unfolding outcome_of
+  accepted_header = go (header_of bytes room) refl e
+    where
+      go : (h : Result ℕ Refusal) → header_of bytes room ≡ h → after_header h bytes ≡ Ok l → (n : ℕ) × (header_of bytes room ≡ Ok n)
+      go (Ok n) q a = (n, q)
+      go (Err r) q a = clash (cc)
+
+  pub accepted_fits : Fitting bytes room (two_at bytes 5)
+  accepted_fits = header_fitting bytes room accepted_header.0 accepted_header.1

@@ -1,6 +1,7 @@
 -- The walk that writes lines comes to the lines of the cards and the leaders, and the outcome of a register to its text.
 -- Assumes nothing.
-use Rattle.std.specs.Prelude.{ℕ, ◌-◌, ◌≤◌, ◌≡◌, refl, List, [], ◌∷◌, ◌++◌, length, take, drop, Option, Some, Result, Ok, Err}
+use Rattle.std.specs.List.{concat}
+use Rattle.std.specs.Prelude.{ℕ, ◌+◌, ◌*◌, ◌≤◌, ◌≡◌, refl, List, [], ◌∷◌, ◌++◌, length, take, drop, Option, Some, Result, Ok, Err}
 use Rattle.refusals.specs.declared.SentBack.{SentBack}
 use Rattle.std.proofs.Common.{arith, ◌∙◌, ap₂, sym, subst, length-take}
 use Rattle.std.proofs.Math.Path.{ap}
@@ -8,12 +9,14 @@ use Rattle.search.specs.Laws.{clash}
 use Rattle.refusals.specs.declared.Refusal.{Refusal}
 use Rattle.refusals.specs.Numbers.{number_of}
 use Rattle.card.specs.declared.Answer.{Answer}
-use Rattle.header.specs.Header.{enough, header_of}
+use Rattle.header.specs.Header.{enough, header_of, Fitting}
+use Rattle.buffer.specs.Numbers.{two_at}
+use Rattle.farthest.specs.declared.Leaders.{Leaders}
 use Rattle.running.specs.declared.Running.{Running}
 use Rattle.running.specs.Running.{before_cards}
 use Rattle.walk.specs.Walk.{texts_of, walk_from, text_from}
 use Rattle.cards.specs.Register.{Cards, answers, sent_back, cards_from, cards_of, result_of, after_header, outcome_of}
-use Rattle.cards.proofs.Laws.{behind_header}
+use Rattle.cards.proofs.Laws.{good_cards, accepted_header, accepted_fits}
 use Rattle.cards.proofs.Walked.{Passed, passed_leaders, stopped}
 use Rattle.lines.specs.Lines.{card_line}
 use Rattle.closing.specs.Closing.{refused_line}
@@ -30,39 +33,50 @@ refused_text : (c : Cards) {sent : SentBack ℕ} → result_of c ≡ Err sent �
 refused_text (answers xs) e = let z : ◌≡◌ {A = ℕ} 0 1 = cc in clash z
 refused_text (sent_back r place) e = cc
 
--- a good header: what the walk behind it writes and ends with
-module _ (bytes : List ℕ) (n : ℕ) (good : header_of bytes enough ≡ Ok n) where
-  -- the cards as the code takes them
-  abbrev Rest : List ℕ
-  Rest = take (length bytes - 7) (drop 7 bytes)
+-- an accepted register: what the walk over its cards writes and ends with
+module _ (bytes : List ℕ) (accepted : IsAccepted (outcome_of bytes enough)) where
+  leaders : (l : Leaders) × (outcome_of bytes enough ≡ Ok l)
+  leaders = go (outcome_of bytes enough) refl accepted
+    where
+      go : (x : Result Leaders (SentBack ℕ)) → outcome_of bytes enough ≡ x → IsAccepted x → (l : Leaders) × (outcome_of bytes enough ≡ Ok l)
+      go (Ok l) q a = (l, q)
+      go (Err sent) q a = absurd a
 
-  rest_cards : cards_from n 0 0 Rest ≡ cards_of n bytes
-  unfolding cards_of
-  rest_cards = ap (cards_from n 0 0) (behind_header bytes)
+  good : (n : ℕ) × (header_of bytes enough ≡ Ok n)
+  good = accepted_header bytes enough leaders.0 leaders.1
 
-  -- an accepted register prints its cards and then its leaders
-  pub accepted_text : (t : Running) (size : ℕ) → Passed card_line n before_cards Rest t size → text_from card_line n before_cards Rest ++ leader_lines t.leaders ≡ listed_after (header_of bytes enough) bytes
-  accepted_text t size p =
-      ap₂ (λ text l. text ++ leader_lines l) (p.text ∙ texts_lines p.list) (passed_leaders card_line n Rest t size p)
-      ∙ (ap listing_of (sym p.cards ∙ rest_cards) ∙ ap (λ h. listed_after h bytes) (sym good))
+  fits : Fitting bytes enough (two_at bytes 5)
+  fits = accepted_fits bytes enough leaders.0 leaders.1
 
-  -- its walk stops at no card
-  pub accepted_walk : {A : Type 0} (sent : SentBack ℕ) → IsAccepted (outcome_of bytes enough) → walk_from card_line n before_cards 0 Rest ≡ Err sent → A
-  unfolding outcome_of
-  accepted_walk sent o e =
-      absurd
-      (subst IsAccepted
-      (ap (λ h. after_header h bytes) good
-      ∙ ap result_of (sym rest_cards ∙ stopped card_line n before_cards Rest sent e))
-      o)
+  pub accepted_length : length bytes ≡ 7 + 24 * two_at bytes 5
+  accepted_length = fits.register
+
+  module _ (cards : List (List ℕ)) (k : length cards ≡ two_at bytes 5) where
+    pub accepted_count : length cards ≤ 2_000
+    accepted_count = omega (arith, fits.cards, k)
+
+    module _ (b : concat cards ≡ drop 7 bytes) where
+      cards_are : cards_from (length cards) 0 0 (concat cards) ≡ cards_of good.0 bytes
+      cards_are = good_cards bytes enough (header_of bytes enough) refl good.0 good.1 cards k b
+
+      -- it prints its cards and then its leaders
+      pub accepted_text : (t : Running) (size : ℕ) → Passed card_line (length cards) before_cards (concat cards) t size → text_from card_line (length cards) before_cards (concat cards) ++ leader_lines t.leaders ≡ listed_after (header_of bytes enough) bytes
+      accepted_text t size p =
+          ap₂ (λ text l. text ++ leader_lines l) (p.text ∙ texts_lines p.list) (passed_leaders card_line (length cards) (concat cards) t size p)
+          ∙ (ap listing_of (sym p.cards ∙ cards_are) ∙ ap (λ h. listed_after h bytes) (sym good.1))
+
+      -- its walk stops at no card
+      pub accepted_walk : {A : Type 0} (sent : SentBack ℕ) → walk_from card_line (length cards) before_cards 0 (concat cards) ≡ Err sent → A
+      unfolding outcome_of
+      accepted_walk sent e =
+          absurd
+          (subst IsAccepted
+          (ap (λ h. after_header h bytes) good.1
+          ∙ ap result_of (sym cards_are ∙ stopped card_line (length cards) before_cards (concat cards) sent e))
+          accepted)
 
 module _ (bytes : List ℕ) where
-  -- a refused header is never accepted
-  pub accepted_header : {A : Type 0} {r : Refusal} → IsAccepted (outcome_of bytes enough) → header_of bytes enough ≡ Err r → A
-  unfolding outcome_of
-  accepted_header o e = absurd (subst IsAccepted (ap (λ h. after_header h bytes) e) o)
-
-  -- and a register that is sent back prints why
+  -- a register that is sent back prints why
   pub sent_back_text : {sent : SentBack ℕ} → outcome_of bytes enough ≡ Err sent → refused_line (number_of sent.refusal) sent.place ≡ listed_after (header_of bytes enough) bytes
   unfolding outcome_of
   sent_back_text {sent} q = go (header_of bytes enough) q

@@ -20,8 +20,8 @@ const LONGEST: usize = 48_007;
 const ROOM: usize = 256_256;
 
 // The lines of both classes, behind the cards.
-fn put_leaders(out: &mut [u8], at: usize, leaders: Leaders) -> usize
-    requires { (at ≤ 128 * 2000) × (listing_room ≤ length out.old) }
+fn put_leaders(out: &mut [u8; ROOM], at: usize, leaders: Leaders) -> usize
+    requires { at ≤ 128 * 2000 }
     ensures wrote { Wrote out.old out.new at result (leader_lines leaders) }
     ensures upper_bound { result ≤ listing_room }
 {
@@ -31,23 +31,20 @@ fn put_leaders(out: &mut [u8], at: usize, leaders: Leaders) -> usize
 
 // The listing of a register that is accepted: one walk writes a line for each card and keeps the leaders. That it stops at no card
 // the outcome told before.
-fn put_accepted(register: &[u8], out: &mut [u8]) -> usize
-    requires { IsAccepted (outcome_of register.now enough) × (listing_room ≤ length out.old) }
+fn put_accepted(register: &[u8], out: &mut [u8; ROOM]) -> usize
+    requires { IsAccepted (outcome_of register.now enough) }
     ensures wrote { Wrote out.old out.new 0 result (listed_after (header_of register.now enough) register.now) }
     ensures upper_bound { result ≤ listing_room }
 {
-    let Ok(count) = header::header_of(register, header::ENOUGH) else {
-        return 0;
-    };
-    let Ok((running, behind)) = walk::through::<Lines>(&register[7..], count, out) else {
+    let cards = header::cards_of(register);
+    let Ok((running, behind)) = walk::through::<Lines>(cards, out) else {
         return 0;
     };
     put_leaders(out, behind, running.leaders)
 }
 
 // The listing of a register that is not too long.
-fn put_listing(register: &[u8], out: &mut [u8]) -> usize
-    requires { listing_room ≤ length out.old }
+fn put_listing(register: &[u8], out: &mut [u8; ROOM]) -> usize
     ensures wrote { Wrote out.old out.new 0 result (listed_after (header_of register.now enough) register.now) }
     ensures upper_bound { result ≤ listing_room }
 {
@@ -66,11 +63,11 @@ pub fn list(register: &[u8], out: &mut [u8]) -> Option<usize>
     ensures out_after { out.new ≡ listed_into register.now out.old }
     ensures within { Within (length out.new) result }
 {
-    if out.len() < ROOM {
+    let Some(front) = out.first_chunk_mut::<ROOM>() else {
         return None;
-    }
+    };
     if LONGEST < register.len() {
-        return Some(closing::put_too_long(out, 0));
+        return Some(closing::put_too_long(front, 0));
     }
-    Some(put_listing(register, out))
+    Some(put_listing(register, front))
 }

@@ -18,7 +18,7 @@ use Rattle.buffer.specs.Numbers.{two_at}
 use Rattle.refusals.specs.declared.Refusal.{Refusal}
 use Rattle.card.specs.declared.Answer.{Answer}
 use Rattle.farthest.specs.Farthest.{leaders_of}
-use Rattle.header.specs.Header.{enough, header_of, HeaderFits}
+use Rattle.header.specs.Header.{enough, header_of}
 use Rattle.header.proofs.Cards.{Sized, first_bytes}
 use Rattle.running.specs.declared.Running.{Running}
 use Rattle.running.specs.Running.{before_cards}
@@ -114,14 +114,14 @@ module _ (bytes : List ℕ) (k : ℕ) (h : Result ℕ Refusal) (e : h ≡ header
   pub header_told : (r : Refusal) → h ≡ Err r → Err (refused_at r 0) ≡ prefix_of bytes k
   header_told r q = sym (refused_first bytes k r 0 (sym (header_refused bytes enough h e r q)))
 
-  module _ (good : HeaderFits bytes enough h) (n : ℕ) (x : Result Leaders (SentBack ℕ)) (q : h ≡ Ok n) (cards : List (List ℕ)) (l : length cards ≡ two_at bytes 5) (b : concat cards ≡ drop 7 bytes) where
+  module _ (n : ℕ) (x : Result Leaders (SentBack ℕ)) (q : h ≡ Ok n) (cards : List (List ℕ)) (l : length cards ≡ two_at bytes 5) (b : concat cards ≡ drop 7 bytes) where
     after : ℕ → Result Leaders (SentBack ℕ)
     after i = result_after i (cards_from (length cards) 0 0 (concat cards))
 
     good_is : after k ≡ prefix_of bytes k
     unfolding prefix_of after
     good_is =
-        ap (result_after k) (good_cards bytes enough h e good n q cards l b) ∙ ap (λ y. result_behind k y bytes) (sym q ∙ e)
+        ap (result_after k) (good_cards bytes enough h e n q cards l b) ∙ ap (λ y. result_behind k y bytes) (sym q ∙ e)
 
     -- all cards are the first k, where there are no more
     every_card : length cards ≤ k → after (length cards) ≡ after k

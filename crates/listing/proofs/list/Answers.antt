@@ -4,19 +4,25 @@ use Rattle.listing.proofs.Ends.{no_room, kept, long_listed, long_into, short_lis
 use borrow.Author.Rules.{rules}
 use Rattle.listing.proofs.list.Goals as goal
 
-pub returns-then-out-lt-ROOM : goal.returns-then-out-lt-ROOM
-returns-then-out-lt-ROOM c = search (no_room, kept, rules)
+pub returns-in_default : goal.returns-in_default
+returns-in_default c = search (no_room, kept, rules)
 
 pub returns-then-register-gt-LONGEST : goal.returns-then-register-gt-LONGEST
-returns-then-register-gt-LONGEST c = record {
-  value = search (long_listed, rules);
-  out_after = search (long_into, rules);
-  within = search rules;
-}
+returns-then-register-gt-LONGEST c =
+    let front = c.in-Some.ensures.cases in
+    let line = c.put_too_long.ensures in
+    record {
+      value = long_listed _ _ front.enough front.same _ c.if-register-gt-LONGEST.true line.wrote;
+      out_after = long_into _ _ front.enough front.same _ c.if-register-gt-LONGEST.true line.wrote line.upper_bound;
+      within = search rules;
+    }
 
 pub returns : goal.returns
-returns c = record {
-  value = search (short_listed, rules);
-  out_after = search (short_into, rules);
-  within = search rules;
-}
+returns c =
+    let front = c.in-Some.ensures.cases in
+    let text = c.put_listing.ensures in
+    record {
+      value = short_listed _ _ front.enough front.same _ c.if-register-gt-LONGEST.false text.wrote;
+      out_after = short_into _ _ front.enough front.same _ c.if-register-gt-LONGEST.false text.wrote text.upper_bound;
+      within = search rules;
+    }
