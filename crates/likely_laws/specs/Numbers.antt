@@ -1,37 +1,24 @@
 -- Every distance that a likely scenario is answered is a number between 0 and 2,500, in hundredths of a mile: of any table, ground, rate
 -- and endpoint, and of any card, rate and duration. One test that computes says what this needs of all tables.
 -- Assumes nothing.
-use Rattle.std.specs.Prelude.{ℕ, zero, suc, ◌-◌, ◌^◌, ◌≤◌, ◌≡◌, refl, List, [], ◌∷◌, map, Bool, true, false, leb, eqb, get_or, drop, Option, Some, None, Result, Ok, Err}
-use Rattle.interpolation.specs.declared.Likely.{Likely}
+use Rattle.std.specs.Prelude.{ℕ, zero, suc, ◌-◌, ◌^◌, ◌≤◌, ◌≡◌, refl, List, [], ◌∷◌, map, Bool, true, leb, get_or, drop, Result, Ok, Err}
 use Rattle.likely_scenario.specs.declared.LikelyScenario.{LikelyScenario}
-use Rattle.scenario.specs.declared.Scenario.{Scenario}
-use Rattle.units.specs.declared.Miles.{Miles}
-use Rattle.std.proofs.Common.{zero-le, le_refl, arith, le-leb, leb-true}
+use Rattle.std.proofs.Common.{zero-le, le_refl, arith}
+use Rattle.std.proofs.lemmas.Bool.Decides.{nat_tests}
 use Rattle.search.specs.Rising.{first_at_least, both}
 use Rattle.search.specs.Places.{every}
 use Rattle.search.specs.PlaceLaws.{every_at}
 use Rattle.search.specs.Laws.{both_true}
 use Rattle.refusals.specs.declared.Refusal.{Refusal}
-use Rattle.refusals.specs.declared.Refusal.TheVariants as refusal
 use Rattle.rules.specs.Printed.{Mark}
-use Rattle.rules.specs.Rules.{distance, largest, in_use, from_column, closest_column, thousandths, mile_limit, answered, past, holding, mark_of, by_range}
+use Rattle.rules.specs.Rules.{distance, largest, in_use, from_column, closest_column, thousandths, answered, past, holding, mark_of, by_range}
 use Rattle.rules.specs.Cuts.{climbs, climbs_from}
 use Rattle.dispersion.specs.declared.Ground.{Ground}
 use Rattle.dispersion.specs.declared.Ground.TheVariants.{Rural, Urban}
 use Rattle.dispersion.specs.Tables.{Table, ranges, grid, lines, unprinted, rate_of, entry_of}
-use Rattle.scenario.specs.declared.ToxicCard.{ToxicCard}
-use Rattle.scenario.specs.Plan.{plan_of}
-use Rattle.fields.specs.declared.Fields.{Fields}
-use Rattle.fields.specs.Layout.{fields_of}
-use Rattle.form.specs.declared.Shape.{Shape}
-use Rattle.form.specs.declared.Shape.TheVariants as shape
-use Rattle.form.specs.Form.{shape_of}
-use Rattle.meaning.specs.declared.Meaning.{Meaning}
-use Rattle.meaning.specs.declared.Meaning.TheVariants as meaning
-use Rattle.meaning.specs.Reading.{substance_of, toxic_meaning}
 use Rattle.interpolation.specs.Interpolation.{entry_read, likely_at, likely_by_row}
 use Rattle.likely_tables.specs.LikelyTables.{likely_tables, range_read, likely_in, likely_reading}
-use Rattle.likely_scenario.specs.LikelyScenario.{bad_rate, likely_table, told, planned_likely, meant_likely, shaped_likely, card_likely, unless_refused, likely_of}
+use Rattle.likely_scenario.specs.LikelyScenario.{likely_of}
 use Rattle.line_laws.specs.Numbers.{Carries, CarriesIn}
 use Rattle.line_laws.proofs.Numbers.{number_reads, in_use_within, number_by_row}
 
@@ -87,20 +74,15 @@ largest_behind : (most : ℕ) (xs : List ℕ) → every (λ d. leb d most) xs �
 unfolding largest
 largest_behind most [] e zero = zero-le
 largest_behind most [] e (suc n) = zero-le
-largest_behind most (d ∷ rest) e zero =
-    let halves = both_true (leb d most) (every (λ d. leb d most) rest) e in
-    omega (arith, leb-true d most halves.0, largest_behind most rest halves.1 0)
-largest_behind most (d ∷ rest) e (suc n) =
-    largest_behind most rest (both_true (leb d most) (every (λ d. leb d most) rest) e).1 n
+largest_behind most (d ∷ rest) e zero = grind (arith, nat_tests, λ (h : every (λ d. leb d most) rest ≡ true). largest_behind most rest h 0)
+largest_behind most (d ∷ rest) e (suc n) = grind (arith, λ (h : every (λ d. leb d most) rest ≡ true). largest_behind most rest h n)
 
 column_short : (column : ℕ) (rows : List (List Mark)) → every (λ row. short (map distance row)) rows ≡ true
     → short (from_column column rows) ≡ true
 unfolding from_column
 column_short column [] e = refl
 column_short column (row ∷ rest) e =
-    let halves = both_true (short (map distance row)) (every (λ row. short (map distance row)) rest) e in
-    rw (le-leb (largest (drop column (map distance row))) 2500 (largest_behind 2500 (map distance row) halves.0 column))
-    (column_short column rest halves.1)
+    grind (arith, nat_tests, λ (h : short (map distance row) ≡ true). largest_behind 2500 (map distance row) h column, column_short column rest)
 
 entries_short : (t : Table) → short_table t ≡ true → (topography : Ground) (endpoint : ℕ) → short (entries_in t topography endpoint) ≡ true
 unfolding short_table
@@ -135,12 +117,7 @@ entry_number d h = number_reads (0 ∷ []) (λ k. d) refl refl (λ k. h) (λ k. 
 -- a range's entry
 range_number : (beyond : Bool) (d : ℕ) → d ≤ 2500 → CarriesIn (range_read (answered beyond d))
 unfolding answered
-range_number false d h = entry_number d h
-range_number true d h = go (eqb d mile_limit)
-  where
-    go : (t : Bool) → CarriesIn (range_read (elim t as (λ _. Option Miles) [ true ↦ Some (record { 0 = d }) | false ↦ None ]))
-    go true = entry_number d h
-    go false = tt
+range_number beyond d h = grind (arith, entry_number d h)
 
 -- a table of rows
 rows_number : (t : Table) → sound_table t ≡ true → (topography : Ground) (rate endpoint : ℕ)
@@ -171,35 +148,7 @@ abbrev pub AnswerCarries : Result LikelyScenario Refusal → Type 0
 AnswerCarries (Ok s) = Carries s.distance
 AnswerCarries (Err r) = Unit {0}
 
-told_number : (found : Option Likely) (table : ℕ) → CarriesIn found → AnswerCarries (told found table)
-told_number (Some d) table h = h
-told_number None table h = tt
-
-planned_number : (p : Option Scenario) (card : ToxicCard) (rate minutes : ℕ) → AnswerCarries (planned_likely p card rate minutes)
-planned_number (Some s) card rate minutes =
-    told_number (likely_reading (likely_table card minutes) card.topography rate s.endpoint) (likely_table card minutes)
-    (reading_number (likely_table card minutes) card.topography rate s.endpoint)
-planned_number None card rate minutes = tt
-
-meant_number : (m : Result Meaning Refusal) (rate minutes : ℕ) → AnswerCarries (meant_likely m rate minutes)
-meant_number (Ok (meaning.Toxic card)) rate minutes = planned_number (plan_of card) card rate minutes
-meant_number (Ok (meaning.Flammable card)) rate minutes = tt
-meant_number (Err r) rate minutes = tt
-
-shaped_number : (s : Result Shape Refusal) (f : Fields) (rate minutes : ℕ) → AnswerCarries (shaped_likely s f rate minutes)
-shaped_number (Ok (shape.Toxic standing)) f rate minutes = meant_number (toxic_meaning (substance_of f) f standing) rate minutes
-shaped_number (Ok shape.Flammable) f rate minutes = tt
-shaped_number (Err r) f rate minutes = tt
-
-unless_number : (b : Bool) (r : Refusal) (further : Result LikelyScenario Refusal) → AnswerCarries further → AnswerCarries (unless_refused b r further)
-unless_number true r further h = tt
-unless_number false r further h = h
-
 -- whatever the card's bytes, the rate and the minutes
 pub answer_number : (card : List ℕ) (rate minutes : ℕ) → AnswerCarries (likely_of card rate minutes)
 unfolding likely_of
-answer_number card rate minutes =
-    unless_number (bad_rate rate) refusal.SuppliedRate
-    (unless_refused (eqb minutes 0) refusal.SuppliedDuration (card_likely card rate minutes))
-    (unless_number (eqb minutes 0) refusal.SuppliedDuration (card_likely card rate minutes)
-    (shaped_number (shape_of (fields_of card)) (fields_of card) rate minutes))
+answer_number card rate minutes = grind (arith, reading_number)

@@ -1,21 +1,17 @@
 -- Every likely distance that a table of rows answers is a number between 0 and 2,500, in hundredths of a mile, whatever the rate.
 -- Assumes nothing.
-use Rattle.std.specs.Prelude.{ℕ, zero, suc, ◌-◌, ◌^◌, ◌≤◌, ◌<◌, ◌≡◌, List, [], ◌∷◌, Bool, leb, eqb, length, get_or, take, Option, Some, None}
+use Rattle.std.specs.Prelude.{ℕ, zero, suc, ◌-◌, ◌^◌, ◌≤◌, ◌<◌, ◌≡◌, List, [], ◌∷◌, leb, length, get_or, take}
 use Rattle.std.proofs.Common.{zero-le, le_refl, arith}
+use Rattle.std.proofs.lemmas.Bool.Decides.{nat_tests}
 use Rattle.std.proofs.Math.Nat.{le-suc}
-use Rattle.std.proofs.Math.Path.{refl}
-use Rattle.std.proofs.Math.Bool.{true, false}
-use Rattle.std.proofs.Math.Dec.{ltb}
-use borrow.Author.Tests.{ltb-true, leb-true}
+use Rattle.std.proofs.Math.Bool.{true}
 use Rattle.search.specs.Rising.{first_at_least}
-use Rattle.search.specs.Laws.{first_reaches, both_true}
+use Rattle.search.specs.Laws.{first_reaches}
 use Rattle.search.specs.Places.{every}
-use Rattle.rules.specs.Rules.{mile_limit, largest, in_use, thousandths}
+use Rattle.rules.specs.Rules.{largest, in_use, thousandths}
 use Rattle.rules.specs.Cuts.{climbs}
 use Rattle.rules.proofs.Laws.{in_use_mono}
-use Rattle.interpolation.specs.declared.Likely.{Likely}
-use Rattle.interpolation.specs.declared.Likely.TheVariants.{Printed, Interpolated, Limit}
-use Rattle.interpolation.specs.Interpolation.{float_of, row_of, line_between, entry_read, between_rows, above_last, by_first, likely_at, likely_by_row}
+use Rattle.interpolation.specs.Interpolation.{float_of, entry_read, between_rows, above_last, by_first, likely_at, likely_by_row}
 use Rattle.line_laws.specs.Floats.{whole, le_of, at_least, at_most}
 use Rattle.line_laws.proofs.Line.{line_between_lem}
 use Rattle.line_laws.specs.Rows.{held, step, below_place}
@@ -31,31 +27,18 @@ whole_number d h =
 
 entry_number : (d : ℕ) → d ≤ 2500 → Carries (entry_read d)
 unfolding entry_read
-entry_number d h = go (eqb d mile_limit)
-  where
-    go : (t : Bool) → Carries (elim t as (λ _. Likely) [ true ↦ Limit (float_of d) | false ↦ Printed (float_of d) ])
-    go true = whole_number d h
-    go false = whole_number d h
+entry_number d h = grind (arith, whole_number d h)
 
 between_number : (r0 d0 r1 d1 rate : ℕ) → r0 < r1 → r1 ≤ 2 ^ 53 → d0 ≤ d1 → d1 ≤ 2500 → r0 ≤ rate → rate ≤ r1
     → Carries (between_rows r0 d0 r1 d1 rate)
 unfolding between_rows
-between_number r0 d0 r1 d1 rate rows last entries limit l h = go (eqb d1 mile_limit)
-  where
-    go : (t : Bool)
-        → Carries (elim t as (λ _. Likely) [ true ↦ Limit (float_of d1) | false ↦ Interpolated (line_between (row_of r0 d0) (row_of r1 d1) (float_of rate)) ])
-    go true = whole_number d1 limit
-    go false =
-        let b = line_between_lem r0 d0 r1 d1 rows last entries limit rate l h in
-        (at_least b 0 zero-le (omega arith), at_most b 2500 limit (omega arith))
+between_number r0 d0 r1 d1 rate rows last entries limit l h =
+    let b = line_between_lem r0 d0 r1 d1 rows last entries limit rate l h in
+    grind (arith, whole_number d1 limit, at_least b 0 zero-le (omega arith), at_most b 2500 limit (omega arith))
 
 above_number : (d : ℕ) → d ≤ 2500 → CarriesIn (above_last d)
 unfolding above_last
-above_number d h = go (eqb d mile_limit)
-  where
-    go : (t : Bool) → CarriesIn (elim t as (λ _. Option Likely) [ true ↦ Some (Limit (float_of d)) | false ↦ None ])
-    go true = whole_number d h
-    go false = tt
+above_number d h = grind (arith, whole_number d h)
 
 -- ---- a reading, of rates that climb and that a float holds, and of entries that never fall
 module _ (rates : List ℕ) (entry : ℕ → ℕ) (climb : climbs rates ≡ true) (exact : every (λ r. leb r (2 ^ 53)) rates ≡ true)
@@ -63,31 +46,24 @@ module _ (rates : List ℕ) (entry : ℕ → ℕ) (climb : climbs rates ≡ true
   first_number_lem : (rate at : ℕ) → at < length rates → ((k : ℕ) → k < at → get_or rates k 0 < rate) → rate ≤ get_or rates at 0
       → Carries (by_first at rates entry rate)
   first_number_lem rate zero h below reach = entry_number (entry 0) (within 0)
-  first_number_lem rate (suc k) h below reach = go (eqb (get_or rates (suc k) 0) rate)
-    where
-      go : (t : Bool)
-          → Carries (elim t as (λ _. Likely) [ true ↦ entry_read (entry (suc k)) | false ↦ between_rows (get_or rates k 0) (entry k) (get_or rates (suc k) 0) (entry (suc k)) rate ])
-      go true = entry_number (entry (suc k)) (within (suc k))
-      go false =
-          between_number (get_or rates k 0) (entry k) (get_or rates (suc k) 0) (entry (suc k)) rate
-          (step rates climb k h)
-          (held rates exact (suc k))
-          (rise k)
-          (within (suc k))
-          (omega (arith, below k (le_refl (suc k))))
-          reach
+  first_number_lem rate (suc k) h below reach =
+      grind (
+        arith,
+        entry_number (entry (suc k)) (within (suc k)),
+        between_number (get_or rates k 0) (entry k) (get_or rates (suc k) 0) (entry (suc k)) rate (step rates climb k h) (held rates exact (suc k)) (rise k) (within (suc k)) (omega (arith, below k (le_refl (suc k)))) reach,
+      )
 
   -- whatever the rate
   pub number_reads : (rate : ℕ) → CarriesIn (likely_at rates entry rate)
   unfolding likely_at
-  number_reads rate = go (ltb (first_at_least rate rates) (length rates)) refl
-    where
-      go : (t : Bool) → ltb (first_at_least rate rates) (length rates) ≡ t
-          → CarriesIn (elim t as (λ _. Option Likely) [ true ↦ Some (by_first (first_at_least rate rates) rates entry rate) | false ↦ above_last (entry (length rates - 1)) ])
-      go true e =
-          let h = ltb-true (first_at_least rate rates) (length rates) e in
-          first_number_lem rate (first_at_least rate rates) h (below_place rates climb rate) (first_reaches rate rates h)
-      go false e = above_number (entry (length rates - 1)) (within (length rates - 1))
+  number_reads rate =
+      let at : ℕ = first_at_least rate rates in
+      grind (
+        arith,
+        nat_tests,
+        λ (h : at < length rates). first_number_lem rate at h (below_place rates climb rate) (first_reaches rate rates h),
+        above_number (entry (length rates - 1)) (within (length rates - 1)),
+      )
 
 -- ---- the entries in use of a table: what the hypotheses ask
 
@@ -98,9 +74,7 @@ largest_within : (most : ℕ) (xs : List ℕ) → every (λ d. leb d most) xs �
 unfolding largest
 largest_within most xs e zero = zero-le
 largest_within most [] e (suc n) = zero-le
-largest_within most (d ∷ rest) e (suc n) =
-    let halves = both_true (leb d most) (every (λ d. leb d most) rest) e in
-    omega (arith, leb-true d most halves.0, largest_within most rest halves.1 n)
+largest_within most (d ∷ rest) e (suc n) = grind (arith, nat_tests, λ (h : every (λ d. leb d most) rest ≡ true). largest_within most rest h n)
 
 pub in_use_within : (most : ℕ) (xs : List ℕ) → every (λ d. leb d most) xs ≡ true → (k : ℕ) → in_use xs k ≤ most
 unfolding in_use

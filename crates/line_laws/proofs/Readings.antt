@@ -2,17 +2,17 @@
 -- the first and above the last. Between two rows the answer lies between their entries, a larger rate never gives less, and an entry
 -- of 25 miles is the limit.
 -- Assumes nothing.
-use Rattle.std.specs.Prelude.{ℕ, zero, suc, ◌-◌, ◌*◌, ◌^◌, ◌≤◌, ◌<◌, ◌≡◌, refl, List, Bool, true, false, T, leb, eqb, Float, length, Some}
-use Rattle.std.proofs.Common.{zero-le, not-suc-le-zero, arith, ◌∙◌, sym, ap, lt-ltb, le-ltb, eq-eqb, ne_eqb}
+use Rattle.std.specs.Prelude.{ℕ, zero, suc, ◌-◌, ◌*◌, ◌^◌, ◌≤◌, ◌<◌, ◌≡◌, refl, List, true, T, leb, Float, length, Some}
+use Rattle.std.proofs.Common.{zero-le, not-suc-le-zero, arith, ◌∙◌, sym, ap, ne_eqb}
 use Rattle.std.specs.Float.Ieee.{le}
 use Rattle.std.proofs.Math.ListN.{get_or, get_or-map}
+use Rattle.std.proofs.lemmas.Bool.Decides.{nat_tests}
 use Rattle.search.specs.Rising.{first_at_least}
-use Rattle.search.specs.Laws.{clash, first_unique}
+use Rattle.search.specs.Laws.{first_unique}
 use Rattle.search.specs.Places.{every}
 use Rattle.rules.specs.Rules.{mile_limit, in_use, thousandths}
 use Rattle.rules.specs.Cuts.{climbs}
 use Rattle.rules.proofs.Laws.{length_thousandths}
-use Rattle.interpolation.specs.declared.Likely.{Likely}
 use Rattle.interpolation.specs.declared.Likely.TheVariants.{Interpolated, Limit}
 use Rattle.interpolation.specs.Interpolation.{float_of, row_of, line_between, entry_read, between_rows, above_last, by_first, likely_at, likely_by_row}
 use Rattle.line_laws.proofs.Line.{line_low, line_high, line_mono}
@@ -24,12 +24,11 @@ use Rattle.line_laws.proofs.Numbers.{in_use_rises, in_use_within}
 module _ (xs : List ℕ) (entry : ℕ → ℕ) (rate : ℕ) where
   found_at : (at : ℕ) → first_at_least rate xs ≡ at → at < length xs → likely_at xs entry rate ≡ Some (by_first at xs entry rate)
   unfolding likely_at
-  found_at at e h =
-      simp (lt-ltb (first_at_least rate xs) (length xs) (omega arith), likely_at) (ap (λ n. Some (by_first n xs entry rate)) e)
+  found_at at e h = grind (arith, nat_tests, e)
 
   found_past : first_at_least rate xs ≡ length xs → likely_at xs entry rate ≡ above_last (entry (length xs - 1))
   unfolding likely_at
-  found_past e = simp (le-ltb (first_at_least rate xs) (length xs) (omega arith), likely_at)
+  found_past e = grind (arith, nat_tests, e)
 
   found_below : 0 < length xs → rate ≤ get_or xs 0 0 → likely_at xs entry rate ≡ Some (entry_read (entry 0))
   found_below h l = found_at 0 (first_unique xs rate 0 zero-le (λ k m. absurd (not-suc-le-zero m)) (λ m. l)) h
@@ -37,7 +36,7 @@ module _ (xs : List ℕ) (entry : ℕ → ℕ) (rate : ℕ) where
   -- the row's own rate
   own_row : (k : ℕ) → get_or xs k 0 ≡ rate → by_first k xs entry rate ≡ entry_read (entry k)
   own_row zero e = refl
-  own_row (suc k) e = simp (eq-eqb (get_or xs (suc k) 0) rate e, by_first)
+  own_row (suc k) e = grind (arith, nat_tests, e)
 
   found_printed : (k : ℕ) → climbs xs ≡ true → k < length xs → get_or xs k 0 ≡ rate → likely_at xs entry rate ≡ Some (entry_read (entry k))
   found_printed k climb h e =
@@ -58,14 +57,7 @@ limited r0 d0 r1 rate = refl
 interpolated : (r0 d0 r1 d1 rate : ℕ) (x : Float) → Some (between_rows r0 d0 r1 d1 rate) ≡ Some (Interpolated x)
     → line_between (row_of r0 d0) (row_of r1 d1) (float_of rate) ≡ x
 unfolding between_rows
-interpolated r0 d0 r1 d1 rate x e = go (eqb d1 mile_limit) e
-  where
-    line : Float
-    line = line_between (row_of r0 d0) (row_of r1 d1) (float_of rate)
-
-    go : (t : Bool) → Some (elim t as (λ _. Likely) [ true ↦ Limit (float_of d1) | false ↦ Interpolated line ]) ≡ Some (Interpolated x) → line ≡ x
-    go true q = clash (cc)
-    go false q = cc
+interpolated r0 d0 r1 d1 rate x e = grind arith
 
 module _ (r0 d0 r1 d1 : ℕ) (rows : r0 < r1) (last : r1 ≤ 2 ^ 53) (rise : d0 ≤ d1) (limit : d1 ≤ 2500) where
   between_entries : (rate : ℕ) (x : Float) → r0 < rate → rate < r1 → Some (between_rows r0 d0 r1 d1 rate) ≡ Some (Interpolated x)
