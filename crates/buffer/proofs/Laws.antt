@@ -43,7 +43,7 @@ joined {b₀} {b₁} {b₂} {s} {t} {at} {mid} {end} first second = record {
 
 -- the same of a writer: two texts one behind the other are their joint text
 pub then : {before between after : Writer} {s t : List ℕ} → Puts before between s → Puts between after t → Puts before after (s ++ t)
-then first second = record { same = second.same ∙ first.same; wrote = joined first.wrote second.wrote }
+then first second = record { same = second.same ∙ first.same; long = second.long ∙ first.long; wrote = joined first.wrote second.wrote }
 
 -- a text that fits, written from the start: the text, and what stood behind it
 pub written_first : (t b : List ℕ) → length t ≤ length b → sets b 0 t ≡ t ++ drop (length t) b

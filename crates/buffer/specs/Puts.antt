@@ -12,4 +12,5 @@ Room w n = w.at + n ≤ length w.bytes.now
 -- where it is now, and every other byte is as it was
 pub record Puts (before after : Writer) (text : List ℕ) : Type 0 where
   pub same : after.bytes.ghost_name ≡ before.bytes.ghost_name
+  pub long : length after.bytes.now ≡ length before.bytes.now
   pub wrote : Wrote before.bytes.now after.bytes.now before.at after.at text
