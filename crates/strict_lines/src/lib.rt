@@ -6,6 +6,8 @@ ghost use Rattle.std.proofs.lemmas.List.Edits.{sets};
 ghost use Rattle.buffer.specs.Wrote.{Wrote};
 ghost use Rattle.strict_lines.specs.Walk.{line_at, lines_to};
 
+use buffer::Writer;
+
 // The line of the card at a place, at the start of a buffer of the writer's own; how long it is.
 fn line_at(cards: &[u8], place: usize, line: &mut [u8]) -> usize
     requires { (place < 2000) × (24 * place + 24 ≤ length cards.now) × (256 ≤ length line.old) }
@@ -14,7 +16,9 @@ fn line_at(cards: &[u8], place: usize, line: &mut [u8]) -> usize
 {
     let start = 24 * place;
     let fields = fields::fields_of(&cards[start..start + 24]);
-    strict_line::put_line(line, 0, fields)
+    let mut written = Writer { bytes: line, at: 0 };
+    strict_line::put_line(&mut written, fields);
+    written.at
 }
 
 // How long the text is.
@@ -37,6 +41,8 @@ pub fn put_lines(cards: &[u8], count: usize, line: &mut [u8], out: &mut [u8])
     let mut at = 0usize;
     for place in 0..count {
         let size = line_at(cards, place, line);
-        at = buffer::put_text(out, at, &line[..size]);
+        let mut behind = Writer { bytes: out, at };
+        buffer::put_text(&mut behind, &line[..size]);
+        at = behind.at;
     }
 }
