@@ -1,5 +1,6 @@
 use Rattle.read_lines.specs.Laws.{lay_start, lay_counted, lay_there, lay_next, lay_turn, lay_bad, lay_end}
-use borrow.Author.Rules.{rules}
+use Rattle.std.specs.Prelude.{refl}
+use Rattle.std.proofs.Common.{rules}
 use Rattle.read_lines.proofs.put_cards.Goals as goal
 
 pub loop-place-init : goal.loop-place-init
@@ -12,7 +13,13 @@ pub returns-in_default : goal.returns-in_default
 returns-in_default c = search (lay_bad, rules)
 
 pub loop-place-preserved : goal.loop-place-preserved
-loop-place-preserved c = (search (lay_turn, rules), search (lay_next, rules), search rules)
+loop-place-preserved c =
+    let so_far = c.loop-place.invariant in (
+      lay_turn _ _ _ _ so_far.1 _ (search rules) c.line_end-end.ensures.value _ c.line_of.ensures _ _ _ (search rules)
+      c.put_card.ensures.wrote (search rules) refl so_far.0,
+      search (lay_next, rules),
+      search rules,
+    )
 
 pub returns : goal.returns
 returns c = search (lay_end, rules)
