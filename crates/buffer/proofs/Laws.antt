@@ -2,10 +2,12 @@
 -- as it was, and a reader of the bytes of a number finds the number.
 -- Assumes nothing.
 use Rattle.std.specs.Prelude.{ℕ, zero, suc, ◌+◌, ◌*◌, ◌/◌, ◌%◌, ◌^◌, ◌≤◌, ◌<◌, ◌≡◌, refl, List, [], ◌∷◌, ◌++◌, length, take, drop, get_or, set}
-use Rattle.std.proofs.Common.{arith, add-zero, zero-add, not-suc-le-zero, sym, ap, ◌∙◌, length-append, length-set, take_at, drop_at, get_or-set_same, get_or-set_other}
+use Rattle.std.proofs.Common.{arith, add-zero, zero-add, not-suc-le-zero, sym, ap, subst, ◌∙◌, length-append, length-set, take_at, drop_at, get_or-set_same, get_or-set_other}
 use Rattle.std.proofs.lemmas.List.Edits.{sets, sets-eq}
 use Rattle.buffer.specs.Numbers.{byte_at, two_at, four_at, eight_at, two_bytes, four_bytes, eight_bytes}
+use Rattle.buffer.specs.declared.Writer.{Writer}
 use Rattle.buffer.specs.Wrote.{Wrote}
+use Rattle.buffer.specs.Puts.{Puts}
 
 -- ---- writing one text after another
 
@@ -38,6 +40,15 @@ joined {b₀} {b₁} {b₂} {s} {t} {at} {mid} {end} first second = record {
       second.bytes ∙ ap (λ (b : List ℕ). sets b mid t) first.bytes
       ∙ ap (λ (k : ℕ). sets (sets b₀ at s) k t) first.place ∙ sets_append s t b₀ at;
 }
+
+-- the same of a writer: two texts one behind the other are their joint text
+pub then : {before between after : Writer} {s t : List ℕ} → Puts before between s → Puts between after t → Puts before after (s ++ t)
+then first second = record { same = second.same ∙ first.same; long = second.long ∙ first.long; wrote = joined first.wrote second.wrote }
+
+-- what a writer wrote, of the buffer that it was lent
+pub lent : {before after : Writer} {text held : List ℕ} → Puts before after text → held ≡ after.bytes.now
+    → Wrote before.bytes.now held before.at after.at text
+lent {before} {after} {text} puts e = subst (λ (b : List ℕ). Wrote before.bytes.now b before.at after.at text) (sym e) puts.wrote
 
 -- a text that fits, written from the start: the text, and what stood behind it
 pub written_first : (t b : List ℕ) → length t ≤ length b → sets b 0 t ≡ t ++ drop (length t) b

@@ -1,11 +1,17 @@
-// Big-endian numbers read from bytes, and bytes, words and big-endian numbers written into a lent buffer from a place on.
+// Big-endian numbers read from bytes, and bytes, words and big-endian numbers written one behind the other into a lent buffer.
 // The caller sees to the room; every byte outside what is written stays as it was.
 #![tactic(auto)]
 
 ghost use Rattle.std.specs.Prelude.{◌≡◌, ◌+◌, ◌≤◌, [], ◌∷◌, length};
-ghost use Rattle.std.proofs.lemmas.List.Edits.{sets};
 ghost use Rattle.buffer.specs.Numbers.{byte_at, two_at, four_at, two_bytes, four_bytes, eight_bytes};
-ghost use Rattle.buffer.specs.Wrote.{Wrote};
+ghost use Rattle.buffer.specs.Puts.{Room, Puts};
+
+// A lent buffer, and the place in it from which on the next text is written.
+#[derive(Drop)]
+pub struct Writer<'a> {
+    pub bytes: &'a mut [u8],
+    pub at: usize,
+}
 
 // The byte at a place, 0 past the end.
 pub fn byte(bytes: &[u8], at: usize) -> u8
@@ -35,45 +41,51 @@ pub fn four(bytes: &[u8], at: usize) -> u32
     ])
 }
 
-// One byte, as the spaces and line feeds between the numbers of a text. The answer is the place behind it.
-pub fn put_byte(out: &mut [u8], at: usize, b: u8) -> usize
-    requires { at + 1 ≤ length out.old }
-    ensures { Wrote out.old out.new at result (b ∷ []) }
+// One byte, as the spaces and line feeds between the numbers of a text.
+pub fn put_byte(out: &mut Writer, b: u8)
+    requires { Room out.old 1 }
+    ensures { Puts out.old out.new (b ∷ []) }
 {
-    out[at] = b;
-    at + 1
+    out.bytes[out.at] = b;
+    out.at += 1;
 }
 
-// A word, or any other bytes. The answer is the place behind them.
-pub fn put_text(out: &mut [u8], at: usize, text: &[u8]) -> usize
-    requires { at + length text.now ≤ length out.old }
-    ensures { Wrote out.old out.new at result text.now }
+// A word, or any other bytes.
+pub fn put_text(out: &mut Writer, text: &[u8])
+    requires { Room out.old (length text.now) }
+    ensures { Puts out.old out.new text.now }
 {
-    let end = at + text.len();
-    out[at..end].copy_from_slice(text);
-    end
+    let end = out.at + text.len();
+    out.bytes[out.at..end].copy_from_slice(text);
+    out.at = end;
 }
 
 // Two bytes, the higher first.
-pub fn put_two(out: &mut [u8], at: usize, n: u16)
-    requires { at + 2 ≤ length out.old }
-    ensures { out.new ≡ sets out.old at (two_bytes n) }
+#[tactic(auto, unfolding(crate::specs::Numbers::two_bytes))]
+pub fn put_two(out: &mut Writer, n: u16)
+    requires { Room out.old 2 }
+    ensures wrote { Puts out.old out.new (two_bytes n) }
+    ensures value { out.new.at ≡ out.old.at + 2 }
 {
-    put_text(out, at, &u16::to_be_bytes(n));
+    put_text(out, &u16::to_be_bytes(n));
 }
 
 // Four bytes, the highest first.
-pub fn put_four(out: &mut [u8], at: usize, n: u32)
-    requires { at + 4 ≤ length out.old }
-    ensures { out.new ≡ sets out.old at (four_bytes n) }
+#[tactic(auto, using(crate::proofs::Ends::four_be))]
+pub fn put_four(out: &mut Writer, n: u32)
+    requires { Room out.old 4 }
+    ensures wrote { Puts out.old out.new (four_bytes n) }
+    ensures value { out.new.at ≡ out.old.at + 4 }
 {
-    put_text(out, at, &u32::to_be_bytes(n));
+    put_text(out, &u32::to_be_bytes(n));
 }
 
 // Eight bytes, the highest first.
-pub fn put_eight(out: &mut [u8], at: usize, n: u64)
-    requires { at + 8 ≤ length out.old }
-    ensures { out.new ≡ sets out.old at (eight_bytes n) }
+#[tactic(auto, using(crate::proofs::Ends::eight_be))]
+pub fn put_eight(out: &mut Writer, n: u64)
+    requires { Room out.old 8 }
+    ensures wrote { Puts out.old out.new (eight_bytes n) }
+    ensures value { out.new.at ≡ out.old.at + 8 }
 {
-    put_text(out, at, &u64::to_be_bytes(n));
+    put_text(out, &u64::to_be_bytes(n));
 }

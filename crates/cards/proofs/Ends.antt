@@ -9,9 +9,8 @@ use native.Mathlib.Omega.{arith}
 use mathlib.Core.Path.{◌≡◌, ◌∙◌, refl, ap, sym, subst}
 use mathlib.Core.List.{List, [], ◌∷◌, ◌++◌}
 use lib.ListN.{length, take, drop}
-use lib.Seq.{sets, length-take-le, take_at}
+use lib.Seq.{sets, take_at}
 use Rattle.search.specs.Laws.{clash}
-use Rattle.buffer.specs.Wrote.{Wrote}
 use Rattle.buffer.proofs.Laws.{written_first}
 use Rattle.refusals.specs.declared.Refusal.{Refusal}
 use Rattle.card.specs.declared.Answer.{Answer}
@@ -19,7 +18,7 @@ use Rattle.card.specs.Answers.{answer_of}
 use Rattle.encode.specs.Bytes.{answer_bytes}
 use Rattle.running.specs.declared.Running.{Running}
 use Rattle.running.specs.Running.{before_cards, step_to, step_of}
-use Rattle.walk.specs.Walk.{texts_of, walk_from, write_on, text_from, end_of, Within}
+use Rattle.walk.specs.Walk.{texts_of, walk_from, write_on, text_from, end_of}
 use Rattle.cards.specs.Register.{Cards, answers, sent_back, then, cards_from, result_of, bytes_of, filled_with}
 use Rattle.cards.proofs.Laws.{cards_count, bytes_length}
 use Rattle.cards.proofs.Walked.{text_is, passed, stopped, end_result}
@@ -29,21 +28,6 @@ texts_bytes : (xs : List Answer) → texts_of answer_bytes xs ≡ bytes_of xs
 unfolding texts_of bytes_of
 texts_bytes [] = refl
 texts_bytes (a ∷ xs) = ap (λ text. answer_bytes a ++ text) (texts_bytes xs)
-
--- the part of the walk's buffer that is copied: it is there, it is as long as what was written, and it fits where the answers fit
-module _ (n size : ℕ) (x : Result (Running × ℕ) (SentBack ℕ)) (t : Running) (q : x ≡ Ok (t, size)) (within : Within (16 * n) x) where
-  few : size ≤ 16 * n
-  few = subst (Within (16 * n)) q within
-
-  module _ (own held : List ℕ) (roomy : 16 * n ≤ length own) (kept : length held ≡ length own) where
-    pub part_there : size ≤ length held
-    part_there = omega (arith, few)
-
-    pub part_length : size ≡ length (take size held)
-    part_length = sym (length-take-le size held part_there)
-
-    pub part_fits : (out : List ℕ) → 16 * n ≤ length out → 0 + length (take size held) ≤ length out
-    part_fits out h = omega (arith, few, part_length)
 
 -- the walk over one card that is sent back writes nothing
 only_refused : (told : Answer → List ℕ) (n : ℕ) (bytes : List ℕ) (r : Refusal) (place : ℕ) → n ≤ 1 → cards_from n 0 0 bytes ≡ sent_back r place → text_from told n before_cards bytes ≡ []
@@ -78,16 +62,15 @@ module _ (n : ℕ) (bytes : List ℕ) where
       ∙ written_first (bytes_of xs) own (omega (arith, bytes_length xs, cards_count n 0 0 bytes xs e))
 
   -- an accepted register has what the walk's buffer holds of the answers copied over its front
-  pub copied : (x : Result (Running × ℕ) (SentBack ℕ)) (t : Running) (size next : ℕ) (own held out after : List ℕ) → x ≡ walk_from answer_bytes n before_cards 0 bytes → x ≡ Ok (t, size)
-      → held ≡ sets own 0 (text_from answer_bytes n before_cards bytes) → Wrote out after 0 next (take size held) → 16 * n ≤ length own → 16 * n ≤ length out
-      → after ≡ filled_with (cards_from n 0 0 bytes) out
-  copied x t size next own held out after e q f w h k =
+  pub copied : (x : Result (Running × ℕ) (SentBack ℕ)) (t : Running) (size : ℕ) (own held part out : List ℕ) → x ≡ walk_from answer_bytes n before_cards 0 bytes → x ≡ Ok (t, size)
+      → held ≡ sets own 0 (text_from answer_bytes n before_cards bytes) → part ≡ take size held → 16 * n ≤ length own
+      → part ++ drop size out ≡ filled_with (cards_from n 0 0 bytes) out
+  copied x t size own held part out e q f w h =
       let p = passed answer_bytes n before_cards bytes t size (sym e ∙ q) in
       let b = bytes_of p.list in
-      w.bytes
-      ∙ (ap (λ (y : List ℕ). sets out 0 (take size y)) (f ∙ front own _ p.list p.cards p.text h)
-      ∙ (ap (sets out 0) (take_at b (drop (length b) own) size (ap length (sym (texts_bytes p.list)) ∙ sym p.sized))
-      ∙ (front out b p.list p.cards (sym (texts_bytes p.list)) k ∙ ap (λ c. filled_with c out) (sym p.cards))))
+      let whole : length b ≡ size = ap length (sym (texts_bytes p.list)) ∙ sym p.sized in
+      let same : part ≡ b = w ∙ ap (take size) (f ∙ front own _ p.list p.cards p.text h) ∙ take_at b (drop (length b) own) size whole in
+      ap (λ (y : List ℕ). y ++ drop size out) same ∙ ap (λ (k : ℕ). b ++ drop k out) (sym whole) ∙ ap (λ c. filled_with c out) (sym p.cards)
 
   -- one card is refused before a byte is written, so the walk may write into the lent buffer itself
   pub one_written : (out after : List ℕ) → after ≡ sets out 0 (text_from answer_bytes n before_cards bytes) → n ≤ 1 → 16 * n ≤ length out → after ≡ filled_with (cards_from n 0 0 bytes) out

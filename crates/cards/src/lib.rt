@@ -21,7 +21,7 @@ pub fn answer_through(
     ensures answers_after { answers.new ≡ filled_with (cards_from (length cards.now) 0 0 (concat cards.now)) answers.old }
 {
     let (running, size) = walk::through::<Answers>(cards, scratch)?;
-    buffer::put_text(answers, 0, &scratch[..size]);
+    answers[..size].copy_from_slice(&scratch[..size]);
     Ok(running.leaders)
 }
 

@@ -1,2 +1,3 @@
-pub mod Turns
+pub mod DigitLaws
 pub mod Laws
+mod Turns

@@ -1,47 +1,40 @@
--- What the loops and the calls in a row of `src/lib.rt` rest on: one turn of each loop, its end, and the texts put together.
+-- What the loop and the calls in a row of `src/lib.rt` rest on: one turn of the loop, and the texts put together.
 -- Assumes nothing.
-use Prim.Native.Nat.{ℕ, suc, ◌+◌, ◌-◌, ◌/◌, ◌%◌, ◌^◌, ◌≤◌, ◌<◌}
-use native.Mathlib.Omega.{arith}
-use mathlib.Core.Path.{◌≡◌, refl, sym, ap, subst, ◌∙◌}
-use mathlib.Core.List.{List, [], ◌∷◌, ◌++◌}
-use lib.ListN.{length, set}
-use lib.Seq.{sets, set_comm}
-use Rattle.buffer.specs.Wrote.{Wrote}
-use Rattle.buffer.proofs.Laws.{sets_append, joined}
+use Rattle.std.specs.Prelude.{ℕ, zero, suc, ◌+◌, ◌-◌, ◌/◌, ◌%◌, ◌^◌, ◌≤◌, ◌<◌, ◌≡◌, refl, List, [], ◌∷◌, ◌++◌, length, drop, set}
+use Rattle.std.proofs.Common.{arith, sym, ap, subst, ◌∙◌, append_assoc, add-one}
+use Rattle.std.proofs.lemmas.List.{drop-set}
+use Rattle.buffer.specs.declared.Writer.{Writer}
+use Rattle.buffer.specs.Puts.{Puts}
+use Rattle.buffer.proofs.Laws.{then}
+use Rattle.decimal.specs.Digits.{digit, digits_in}
 use Rattle.decimal.specs.Decimal.{padded, digits, fixed}
-use Rattle.decimal.proofs.Laws.{length_padded, digits_padded}
-
--- a byte behind a text may as well be written before it
-set_behind : (s b : List ℕ) (at k v : ℕ) → at + length s ≤ k → set (sets b at s) k v ≡ sets (set b k v) at s
-set_behind [] b at k v h = refl
-set_behind (x ∷ s) b at k v h =
-    set_behind s (set b at x) (suc at) k v (omega arith)
-    ∙ ap (λ (l : List ℕ). sets l (suc at) s) (set_comm b at k x v (λ e. omega arith))
-
--- a text that ends in one more byte: that byte may be written first
-pub last_first : (s b : List ℕ) (at v : ℕ) → sets b at (s ++ (v ∷ [])) ≡ sets (set b (at + length s) v) at s
-last_first s b at v = sym (sets_append s (v ∷ []) b at) ∙ set_behind s b at (at + length s) v (omega arith)
+use Rattle.decimal.proofs.DigitLaws.{padded_in}
+use Rattle.decimal.proofs.Laws.{digits_padded}
 
 -- the last digit is written first, before the place reached, and the others before it
-pub digit_turn : (b : List ℕ) (at place n : ℕ) → at < place
-    → sets b at (padded (place - at) n) ≡ sets (set b (place - 1) (48 + n % 10)) at (padded (place - 1 - at) (n / 10))
-unfolding padded
-digit_turn b at place n h =
-    let others = padded (place - 1 - at) (n / 10) in
-    let more : place - at ≡ suc (place - 1 - at) = omega arith in
-    let there : at + length others ≡ place - 1 = omega (arith, length_padded (place - 1 - at) (n / 10)) in
-    rw more (last_first others b at (48 + n % 10) ∙ ap (λ (j : ℕ). sets (set b j (48 + n % 10)) at others) there)
+pub digit_turn : (base : ℕ) (room : List ℕ) (place n : ℕ) → 0 < place → place ≤ length room
+    → digits_in base place n ++ drop place room
+    ≡ digits_in base (place - 1) (n / base) ++ drop (place - 1) (set room (place - 1) (digit (n % base)))
+unfolding digits_in
+digit_turn base room place n some fits =
+    let before = place - 1 in
+    let more : place ≡ suc before = omega arith in
+    let others = digits_in base before (n / base) in
+    let last : drop before (set room before (digit (n % base))) ≡ digit (n % base) ∷ drop (suc before) room =
+    drop-set room before (digit (n % base)) (omega arith) ∙ ap (λ (k : ℕ). digit (n % base) ∷ drop k room) (add-one before) in
+    ap (λ (k : ℕ). digits_in base k n ++ drop k room) more
+    ∙ append_assoc others (digit (n % base) ∷ []) (drop (suc before) room) ∙ sym (ap (λ (l : List ℕ). others ++ l) last)
 
 -- as many of the last digits as there are digits: the number
-pub counted : (n : ℕ) {before after : List ℕ} {at next count : ℕ} → count ≡ length (digits n)
-    → Wrote before after at next (padded count n) → Wrote before after at next (digits n)
-counted n {before} {after} {at} {next} e w =
-    subst (λ (t : List ℕ). Wrote before after at next t) (ap (λ (k : ℕ). padded k n) e ∙ sym (digits_padded n)) w
+pub counted : (n : ℕ) {before after : Writer} {count : ℕ} → count ≡ length (digits n) → Puts before after (digits_in 10 count n)
+    → Puts before after (digits n)
+counted n {before} {after} {count} e w =
+    subst (λ (t : List ℕ). Puts before after t) (ap (λ (k : ℕ). digits_in 10 k n) e ∙ sym (padded_in (length (digits n)) n) ∙ sym (digits_padded n)) w
 
 -- the wholes, the dot and the decimals, one after the other: the number with decimals
-pub dotted : (places n whole : ℕ) {b₀ b₁ b₂ b₃ : List ℕ} {at dot rest end : ℕ} → whole ≡ 10 ^ places
-    → Wrote b₀ b₁ at dot (digits (n / whole)) → Wrote b₁ b₂ dot rest (46 ∷ [])
-    → Wrote b₂ b₃ rest end (padded places (n % whole)) → Wrote b₀ b₃ at end (fixed places n)
+pub dotted : (places n whole : ℕ) {b₀ b₁ b₂ b₃ : Writer} → whole ≡ 10 ^ places → Puts b₀ b₁ (digits (n / whole)) → Puts b₁ b₂ (46 ∷ [])
+    → Puts b₂ b₃ (digits_in 10 places (n % whole)) → Puts b₀ b₃ (fixed places n)
 unfolding fixed
-dotted places n whole {b₀} {b₁} {b₂} {b₃} {at} {dot} {rest} {end} e wholes point decimals =
-    subst (λ k. Wrote b₀ b₃ at end (digits (n / k) ++ (46 ∷ padded places (n % k)))) e (joined wholes (joined point decimals))
+dotted places n whole {b₀} {b₁} {b₂} {b₃} e wholes point decimals =
+    subst (λ k. Puts b₀ b₃ (digits (n / k) ++ (46 ∷ padded places (n % k)))) e
+    (then wholes (then point (subst (λ (t : List ℕ). Puts b₂ b₃ t) (sym (padded_in places (n % whole))) decimals)))

@@ -1,10 +1,13 @@
-// Writes numbers as text into a lent buffer, from a position on, and answers the position
-// behind the text. The caller sees to the room; every byte outside the text stays as it was.
+// Writes numbers as text into a lent buffer, one text behind the other. The caller sees to the room; every byte outside the text
+// stays as it was.
 #![tactic(auto)]
 
-ghost use Rattle.std.specs.Prelude.{◌≡◌, ◌+◌, ◌≤◌, [], ◌∷◌, ◌++◌, length};
-ghost use Rattle.buffer.specs.Wrote.{Wrote};
-ghost use Rattle.decimal.specs.Decimal.{padded, digits, fixed};
+ghost use Rattle.std.specs.Prelude.{◌≡◌, ◌+◌, ◌<◌, ◌≤◌, [], ◌∷◌, ◌++◌, length};
+ghost use Rattle.buffer.specs.Puts.{Room, Puts};
+ghost use Rattle.decimal.specs.Digits.{digit, digits_in};
+ghost use Rattle.decimal.specs.Decimal.{digits, fixed};
+
+use buffer::Writer;
 
 // How many digits n has.
 fn digit_count(n: u64) -> usize
@@ -13,50 +16,73 @@ fn digit_count(n: u64) -> usize
     n.checked_ilog10().unwrap_or(0) as usize + 1
 }
 
-// The last count digits of n, with zeros in front where n has fewer. Written from the last to the
-// first, since a division by ten gives the last digit.
-pub fn put_padded(out: &mut [u8], at: usize, count: usize, n: u64) -> usize
-    requires { at + count ≤ length out.old }
-    ensures wrote { Wrote out.old out.new at result (padded count n) }
-    ensures value { result ≡ at + count }
+// The digit of a number below sixteen, in lower case: the letters stand behind 9.
+#[tactic(auto, unfolding(crate::specs::Digits::digit))]
+fn digit(d: u8) -> u8
+    requires { d < 16 }
+    ensures { result ≡ digit d }
+{
+    if d < 10 {
+        return b'0' + d;
+    }
+    b'a' + (d - 10)
+}
+
+// The last digits of n in a base, as many as there is room for, with zeros in front where n has fewer. Written from the last to the
+// first, since a division by the base gives the last digit.
+fn fill_digits<const BASE: u64>(room: &mut [u8], n: u64)
+    requires { (2 ≤ BASE) × (BASE ≤ 16) }
+    ensures { room.new ≡ digits_in BASE (length room.old) n }
 {
     let mut rest = n;
-    for place in (at..at + count).rev() {
-        out[place] = b'0' + (rest % 10) as u8;
-        rest /= 10;
+    for place in (0..room.len()).rev() {
+        room[place] = digit((rest % BASE) as u8);
+        rest /= BASE;
     }
-    at + count
+}
+
+// The last count digits of n in a base.
+pub fn put_digits<const BASE: u64>(out: &mut Writer, count: usize, n: u64)
+    requires base { (2 ≤ BASE) × (BASE ≤ 16) }
+    requires room { Room out.old count }
+    ensures wrote { Puts out.old out.new (digits_in BASE count n) }
+    ensures value { out.new.at ≡ out.old.at + count }
+{
+    let end = out.at + count;
+    fill_digits::<BASE>(&mut out.bytes[out.at..end], n);
+    out.at = end;
 }
 
 // A number in decimal without leading zeros.
-pub fn put_number(out: &mut [u8], at: usize, n: u64) -> usize
-    requires { at + 20 ≤ length out.old }
-    ensures wrote { Wrote out.old out.new at result (digits n) }
-    ensures upper_bound { result ≤ at + 20 }
+#[tactic(auto, using(crate::proofs::Turns::counted))]
+pub fn put_number(out: &mut Writer, n: u64)
+    requires { Room out.old 20 }
+    ensures wrote { Puts out.old out.new (digits n) }
+    ensures upper_bound { out.new.at ≤ out.old.at + 20 }
 {
     let count = digit_count(n);
-    put_padded(out, at, count, n)
+    put_digits::<10>(out, count, n);
 }
 
 // A number and the byte behind it: a space, or the line feed that ends the line.
-pub fn put_number_then(out: &mut [u8], at: usize, n: u64, b: u8) -> usize
-    requires { at + 21 ≤ length out.old }
-    ensures wrote { Wrote out.old out.new at result (digits n ++ (b ∷ [])) }
-    ensures upper_bound { result ≤ at + 21 }
+pub fn put_number_then(out: &mut Writer, n: u64, b: u8)
+    requires { Room out.old 21 }
+    ensures wrote { Puts out.old out.new (digits n ++ (b ∷ [])) }
+    ensures upper_bound { out.new.at ≤ out.old.at + 21 }
 {
-    let behind = put_number(out, at, n);
-    buffer::put_byte(out, behind, b)
+    put_number(out, n);
+    buffer::put_byte(out, b);
 }
 
 // A number with so many decimals, counted in the units that they give: hundredths "with two decimals", thousandths "with three
 // decimals".
-pub fn put_fixed(out: &mut [u8], at: usize, places: usize, n: u64) -> usize
-    requires { (places ≤ 3) × (at + 24 ≤ length out.old) }
-    ensures wrote { Wrote out.old out.new at result (fixed places n) }
-    ensures upper_bound { result ≤ at + 24 }
+pub fn put_fixed(out: &mut Writer, places: usize, n: u64)
+    requires { (places ≤ 3) × Room out.old 24 }
+    ensures wrote { Puts out.old out.new (fixed places n) }
+    ensures upper_bound { out.new.at ≤ out.old.at + 24 }
 {
     let whole = 10u64.pow(places as u32);
-    let dot = put_number(out, at, n / whole);
-    let rest = buffer::put_byte(out, dot, b'.');
-    put_padded(out, rest, places, n % whole)
+    put_number(out, n / whole);
+    buffer::put_byte(out, b'.');
+    put_digits::<10>(out, places, n % whole);
 }

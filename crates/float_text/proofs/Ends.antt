@@ -4,15 +4,14 @@
 use Rattle.std.proofs.Common.{◌≡◌, ℕ, suc, ◌+◌, ◌-◌, ◌*◌, ◌^◌, ◌<◌, ◌≤◌, true, false, T, List, ℤ, pos, sym, refl, ap, ◌∙◌, subst, add-one, arith, lt→ltb, w64, Fits}
 use lib.Ieee.{Float, fin, up, down, lt, le, to_unsigned}
 use lib.Ieee.Fits.{down_pos}
-use Rattle.buffer.specs.Wrote.{Wrote}
+use Rattle.buffer.specs.declared.Writer.{Writer}
+use Rattle.buffer.specs.Puts.{Puts}
 use Rattle.decimal.specs.Decimal.{fixed}
 use Rattle.interpolation.specs.Interpolation.{float_of}
 use Rattle.float_text.specs.RoundedUp.{up_of}
 use Rattle.float_text.specs.Values.{by_sign, under, cut_within}
 use Rattle.float_text.proofs.Cases.{up_more, up_same}
 use Rattle.float_text.proofs.UpLaws.{up_within}
-use Rattle.float_text.specs.Hex.{hex_digit}
-use Rattle.float_text.proofs.HexLaws.{digit_figure, digit_letter}
 
 -- ---- `up`: the whole part is asked for above -1 and below 2 ^ 64
 
@@ -59,18 +58,7 @@ shown_within x r low high e = subst (λ (n : ℕ). n ≤ 2500) (sym e) (up_withi
 
 -- ---- `put_miles_up`: the text of the number that `up` answered
 
-pub miles_end : (x : Float) (r : ℕ) {before after : List ℕ} {at next : ℕ} → r ≡ up_of x → Wrote before after at next (fixed 2 r)
-    → Wrote before after at next (fixed 2 (up_of x))
-miles_end x r {before} {after} {at} {next} e w = subst (λ (n : ℕ). Wrote before after at next (fixed 2 n)) e w
+pub miles_end : (x : Float) (r : ℕ) {before after : Writer} → r ≡ up_of x → Puts before after (fixed 2 r) → Puts before after (fixed 2 (up_of x))
+miles_end x r {before} {after} e w = subst (λ (n : ℕ). Puts before after (fixed 2 n)) e w
 
--- ---- `hex_digit`
-
-pub figure_end : (d : ℕ) → d < 10 → 48 + d ≡ hex_digit d
-figure_end d h = sym (digit_figure d h)
-
-pub letter_end : (d : ℕ) → 10 ≤ d → 97 + (d - 10) ≡ hex_digit d
-letter_end d h =
-    let whole : 97 + (d - 10) ≡ 87 + d = omega arith in
-    whole ∙ sym (digit_letter d h)
-
-pub ruleset ends = (above_minus_one, below_the_end, one_more_fits, cut_off, nothing_cut, shown_within, miles_end, figure_end, letter_end)
+pub ruleset ends = (above_minus_one, below_the_end, one_more_fits, cut_off, nothing_cut, shown_within, miles_end)

@@ -1,5 +1,4 @@
 mod Ends
-mod Turns
 pub mod Cases
 pub mod HexLaws
 pub mod UpLaws

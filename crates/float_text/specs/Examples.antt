@@ -4,10 +4,11 @@
 -- Assumes nothing.
 use Rattle.std.specs.Prelude.{◌≡◌, [], ◌∷◌, refl, Float}
 use Rattle.std.specs.Float.Ieee.{lt, add, sub, mul, div, of_int, to_unsigned, to_bits}
+use Rattle.decimal.specs.Digits.{digit, digits_in}
 use Rattle.decimal.specs.Decimal.{padded, digits_within, digits, fixed}
 use Rattle.interpolation.specs.Interpolation.{float_of, row_of, line_between}
 use Rattle.float_text.specs.RoundedUp.{up_of}
-use Rattle.float_text.specs.Hex.{hex_digit, hex_digits, pattern_of}
+use Rattle.float_text.specs.Hex.{pattern_of}
 
 abbrev between : Float
 between = line_between (row_of 2000 160) (row_of 3000 190) (float_of 2001)
@@ -18,5 +19,5 @@ as_miles = (refl, refl)
 
 pub as_bits : (pattern_of between ≡ 52 ∷ 48 ∷ 54 ∷ 52 ∷ 48 ∷ 48 ∷ 102 ∷ 53 ∷ 99 ∷ 50 ∷ 56 ∷ 102 ∷ 53 ∷ 99 ∷ 50 ∷ 57 ∷ [])
     × (pattern_of (float_of 160) ≡ 52 ∷ 48 ∷ 54 ∷ 52 ∷ 48 ∷ 48 ∷ 48 ∷ 48 ∷ 48 ∷ 48 ∷ 48 ∷ 48 ∷ 48 ∷ 48 ∷ 48 ∷ 48 ∷ [])
-unfolding add sub mul div of_int to_bits hex_digit hex_digits pattern_of
+unfolding add sub mul div of_int to_bits digit digits_in pattern_of
 as_bits = (refl, refl)

@@ -3,10 +3,12 @@
 
 ghost use Rattle.std.specs.Prelude.{◌≡◌, ◌+◌, ◌≤◌, length};
 ghost use Rattle.buffer.specs.Wrote.{Wrote};
+ghost use Rattle.buffer.specs.Puts.{Room, Puts};
 ghost use Rattle.comma.specs.Text.{card_bytes};
 ghost use Rattle.likely_laws.specs.Numbers.{AnswerCarries};
 ghost use Rattle.likely_listing.specs.LikelyListing.{answer_line, question_line, likely_listing};
 
+use buffer::Writer;
 use fields::Fields;
 use likely_scenario::LikelyScenario;
 use question::Question;
@@ -21,34 +23,39 @@ fn card_of(card: Fields) -> [u8; 24]
     ensures { result ≡ card_bytes card }
 {
     let mut bytes = [0; 24];
-    register_bytes::put_card(&mut bytes, 0, card);
+    let mut written = Writer {
+        bytes: &mut bytes,
+        at: 0,
+    };
+    register_bytes::put_card(&mut written, card);
     bytes
 }
 
 // The line of an answer.
-fn put_answer(out: &mut [u8], answer: Result<LikelyScenario, Refusal>) -> usize
-    requires { (128 ≤ length out.old) × AnswerCarries answer }
-    ensures wrote { Wrote out.old out.new 0 result (answer_line answer) }
-    ensures upper_bound { result ≤ 128 }
+fn put_answer(out: &mut Writer, answer: Result<LikelyScenario, Refusal>)
+    requires { Room out.old 128 × AnswerCarries answer }
+    ensures wrote { Puts out.old out.new (answer_line answer) }
+    ensures upper_bound { out.new.at ≤ out.old.at + 128 }
 {
     match answer {
-        Ok(scenario) => likely_line::put_scenario(out, 0, scenario),
-        Err(refusal) => closing::put_refused(out, 0, u8::from(refusal), 0),
+        Ok(scenario) => likely_line::put_scenario(out, scenario),
+        Err(refusal) => closing::put_refused(out, u8::from(refusal), 0),
     }
 }
 
 // The line of a question.
-fn put_question(out: &mut [u8], question: Option<Question>) -> usize
-    requires { 128 ≤ length out.old }
-    ensures wrote { Wrote out.old out.new 0 result (question_line question) }
-    ensures upper_bound { result ≤ 128 }
+fn put_question(out: &mut Writer, question: Option<Question>)
+    requires { Room out.old 128 }
+    ensures wrote { Puts out.old out.new (question_line question) }
+    ensures upper_bound { out.new.at ≤ out.old.at + 128 }
 {
     let Some(asked) = question else {
-        return closing::put_refused(out, 0, u8::from(Refusal::Line), 1);
+        closing::put_refused(out, u8::from(Refusal::Line), 1);
+        return;
     };
     let card = card_of(asked.card);
     let answer = likely_scenario::likely_of(&card, asked.rate as u64, asked.minutes);
-    put_answer(out, answer)
+    put_answer(out, answer);
 }
 
 // The listing of any text, at the start of a lent buffer; behind it the buffer stays as it was.
@@ -57,8 +64,11 @@ pub fn list(text: &[u8], out: &mut [u8; 128]) -> usize
     ensures wrote { Wrote out.old out.new 0 result (likely_listing text.now) }
     ensures upper_bound { result ≤ length out.new }
 {
+    let mut line = Writer { bytes: out, at: 0 };
     if LONGEST < text.len() {
-        return closing::put_too_long(out, 0);
+        closing::put_too_long(&mut line);
+    } else {
+        put_question(&mut line, question::question_of(text));
     }
-    put_question(out, question::question_of(text))
+    line.at
 }

@@ -9,6 +9,7 @@ ghost use Rattle.cards.specs.Register.{outcome_of};
 ghost use Rattle.listing.specs.Listing.{leader_lines, listed_after, listing_room, listed_of, listed_into, Within};
 ghost use Rattle.listing.specs.Laws.{IsAccepted};
 
+use buffer::Writer;
 use farthest::Leaders;
 use refusals::SentBack;
 use walk::Lines;
@@ -25,8 +26,10 @@ fn put_leaders(out: &mut [u8; ROOM], at: usize, leaders: Leaders) -> usize
     ensures wrote { Wrote out.old out.new at result (leader_lines leaders) }
     ensures upper_bound { result ≤ listing_room }
 {
-    let next = closing::put_leader(out, at, b'T', leaders.toxic);
-    closing::put_leader(out, next, b'F', leaders.flammable)
+    let mut lines = Writer { bytes: out, at };
+    closing::put_leader(&mut lines, b'T', leaders.toxic);
+    closing::put_leader(&mut lines, b'F', leaders.flammable);
+    lines.at
 }
 
 // The listing of a register that is accepted: one walk writes a line for each card and keeps the leaders. That it stops at no card
@@ -51,7 +54,9 @@ fn put_listing(register: &[u8], out: &mut [u8; ROOM]) -> usize
     match register::outcome_of(register, header::ENOUGH) {
         Ok(_) => put_accepted(register, out),
         Err(SentBack { refusal, place }) => {
-            closing::put_refused(out, 0, u8::from(refusal), place)
+            let mut line = Writer { bytes: out, at: 0 };
+            closing::put_refused(&mut line, u8::from(refusal), place);
+            line.at
         }
     }
 }
@@ -67,7 +72,12 @@ pub fn list(register: &[u8], out: &mut [u8]) -> Option<usize>
         return None;
     };
     if LONGEST < register.len() {
-        return Some(closing::put_too_long(front, 0));
+        let mut line = Writer {
+            bytes: front,
+            at: 0,
+        };
+        closing::put_too_long(&mut line);
+        return Some(line.at);
     }
     Some(put_listing(register, front))
 }

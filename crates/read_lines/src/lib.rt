@@ -7,6 +7,7 @@ ghost use Rattle.comma.specs.Text.{cards_in, reading_of, read_into};
 ghost use Rattle.count_lines.specs.Count.{count_from};
 ghost use Rattle.read_lines.specs.Walk.{laid_from};
 
+use buffer::Writer;
 use count_lines::Lines;
 use refusals::{Refusal, SentBack};
 
@@ -19,7 +20,11 @@ fn put_cards(text: &[u8], count: usize, out: &mut [u8])
         let Some(fields) = read_line::line_of(line) else {
             return;
         };
-        register_bytes::put_card(out, 7 + 24 * place, fields);
+        let mut card = Writer {
+            bytes: out,
+            at: 7 + 24 * place,
+        };
+        register_bytes::put_card(&mut card, fields);
     }
 }
 
@@ -40,7 +45,8 @@ pub fn read(text: &[u8], out: &mut [u8]) -> Result<usize, SentBack<usize>>
             place: 0,
         });
     }
-    register_bytes::put_header(out, count);
+    let mut header = Writer { bytes: out, at: 0 };
+    register_bytes::put_header(&mut header, count);
     put_cards(text, count, out);
     Ok(7 + 24 * count)
 }

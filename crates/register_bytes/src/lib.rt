@@ -1,61 +1,67 @@
 // The bytes of a version 1 register, written into a buffer: its header, and a card's fields.
 #![tactic(auto)]
 
-ghost use Rattle.std.specs.Prelude.{◌≡◌, ◌+◌, ◌*◌, ◌≤◌, length};
-ghost use Rattle.std.proofs.lemmas.List.Edits.{sets};
+ghost use Rattle.std.specs.Prelude.{◌≡◌, ◌+◌, ◌*◌, ◌≤◌};
+ghost use Rattle.buffer.specs.Puts.{Room, Puts};
 ghost use Rattle.comma.specs.Text.{card_bytes, header_bytes};
 ghost use Rattle.register_bytes.specs.Parts.{code_bytes, amount_bytes, last_bytes};
 
+use buffer::Writer;
 use fields::Fields;
 
 // "Four bytes: length of the whole register. One byte: version, 1. Two bytes: card count"
-pub fn put_header(out: &mut [u8], count: usize)
-    requires { (count ≤ 2000) × (7 ≤ length out.old) }
-    ensures { out.new ≡ sets out.old 0 (header_bytes count) }
+pub fn put_header(out: &mut Writer, count: usize)
+    requires { (count ≤ 2000) × Room out.old 7 }
+    ensures wrote { Puts out.old out.new (header_bytes count) }
+    ensures value { out.new.at ≡ out.old.at + 7 }
 {
     let whole = 7 + 24 * count;
-    buffer::put_four(out, 0, whole as u32);
-    buffer::put_byte(out, 4, 1);
-    buffer::put_two(out, 5, count as u16);
+    buffer::put_four(out, whole as u32);
+    buffer::put_byte(out, 1);
+    buffer::put_two(out, count as u16);
 }
 
 // Bytes 0 to 3 of a card.
-fn put_codes(out: &mut [u8], at: usize, fields: Fields)
-    requires { at + 4 ≤ length out.old }
-    ensures { out.new ≡ sets out.old at (code_bytes fields) }
+fn put_codes(out: &mut Writer, fields: Fields)
+    requires { Room out.old 4 }
+    ensures wrote { Puts out.old out.new (code_bytes fields) }
+    ensures value { out.new.at ≡ out.old.at + 4 }
 {
-    out[at] = fields.kind;
-    out[at + 1] = fields.state;
-    out[at + 2] = fields.topography;
-    out[at + 3] = fields.containment;
+    buffer::put_byte(out, fields.kind);
+    buffer::put_byte(out, fields.state);
+    buffer::put_byte(out, fields.topography);
+    buffer::put_byte(out, fields.containment);
 }
 
 // Its CAS number, pounds and area.
-fn put_amounts(out: &mut [u8], at: usize, fields: Fields)
-    requires { at + 12 ≤ length out.old }
-    ensures { out.new ≡ sets out.old at (amount_bytes fields) }
+fn put_amounts(out: &mut Writer, fields: Fields)
+    requires { Room out.old 12 }
+    ensures wrote { Puts out.old out.new (amount_bytes fields) }
+    ensures value { out.new.at ≡ out.old.at + 12 }
 {
-    buffer::put_four(out, at, fields.cas);
-    buffer::put_four(out, at + 4, fields.pounds);
-    buffer::put_four(out, at + 8, fields.area);
+    buffer::put_four(out, fields.cas);
+    buffer::put_four(out, fields.pounds);
+    buffer::put_four(out, fields.area);
 }
 
 // Its wall, temperature and number.
-fn put_lasts(out: &mut [u8], at: usize, fields: Fields)
-    requires { at + 8 ≤ length out.old }
-    ensures { out.new ≡ sets out.old at (last_bytes fields) }
+fn put_lasts(out: &mut Writer, fields: Fields)
+    requires { Room out.old 8 }
+    ensures wrote { Puts out.old out.new (last_bytes fields) }
+    ensures value { out.new.at ≡ out.old.at + 8 }
 {
-    buffer::put_two(out, at, fields.wall);
-    buffer::put_two(out, at + 2, fields.heat);
-    buffer::put_four(out, at + 4, fields.number);
+    buffer::put_two(out, fields.wall);
+    buffer::put_two(out, fields.heat);
+    buffer::put_four(out, fields.number);
 }
 
 // The 24 bytes of a card.
-pub fn put_card(out: &mut [u8], at: usize, fields: Fields)
-    requires { at + 24 ≤ length out.old }
-    ensures { out.new ≡ sets out.old at (card_bytes fields) }
+pub fn put_card(out: &mut Writer, fields: Fields)
+    requires { Room out.old 24 }
+    ensures wrote { Puts out.old out.new (card_bytes fields) }
+    ensures value { out.new.at ≡ out.old.at + 24 }
 {
-    put_codes(out, at, fields);
-    put_amounts(out, at + 4, fields);
-    put_lasts(out, at + 16, fields);
+    put_codes(out, fields);
+    put_amounts(out, fields);
+    put_lasts(out, fields);
 }

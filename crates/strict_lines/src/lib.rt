@@ -9,13 +9,17 @@ ghost use Rattle.fields.specs.Layout.{fields_of};
 ghost use Rattle.comma.specs.Strict.{strict_line};
 ghost use Rattle.strict_lines.specs.Walk.{lines_to};
 
+use buffer::Writer;
+
 // The line of a card, at the start of a buffer of the writer's own; how long it is.
 fn line_of(card: &[u8], line: &mut [u8]) -> usize
     requires { 256 ≤ length line.old }
     ensures wrote { Wrote line.old line.new 0 result (strict_line (fields_of card.now) ++ (10 ∷ [])) }
     ensures upper_bound { result ≤ 256 }
 {
-    strict_line::put_line(line, 0, fields::fields_of(card))
+    let mut written = Writer { bytes: line, at: 0 };
+    strict_line::put_line(&mut written, fields::fields_of(card));
+    written.at
 }
 
 // How long the text is.
@@ -38,6 +42,8 @@ pub fn put_lines(cards: &[[u8; 24]], line: &mut [u8], out: &mut [u8])
     let mut at = 0usize;
     for card in cards {
         let size = line_of(card, line);
-        at = buffer::put_text(out, at, &line[..size]);
+        let mut behind = Writer { bytes: out, at };
+        buffer::put_text(&mut behind, &line[..size]);
+        at = behind.at;
     }
 }

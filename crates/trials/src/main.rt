@@ -5,6 +5,7 @@
 
 ghost use Rattle.std.specs.Prelude.{◌≤◌, ◌<◌, length};
 
+use buffer::Writer;
 use refusals::SentBack;
 use std::io::Read;
 
@@ -34,7 +35,12 @@ fn fill(out: &impl Print, register: &[u8], room: usize, text: &mut [u8]) {
         return;
     };
     let mut line = [0u8; 64];
-    let end = closing::put_refused(&mut line, 0, u8::from(refusal), place);
+    let mut written = Writer {
+        bytes: &mut line,
+        at: 0,
+    };
+    closing::put_refused(&mut written, u8::from(refusal), place);
+    let end = written.at;
     put(out, &line[..end]);
 }
 

@@ -1,4 +1,4 @@
--- What is written of a card, and the walk: one turn and its ends. At every card what is left of the walk, from the running
+-- The walk: its start, one turn and its ends. At every card what is left of the walk, from the running
 -- values, comes to the whole walk, and so does what is left to write; each law carries that on.
 -- Assumes nothing.
 use Rattle.std.specs.Prelude.{Result, Ok, Err}
@@ -22,11 +22,6 @@ use Rattle.running.specs.declared.Running.{Running}
 use Rattle.running.specs.Running.{step_of}
 use Rattle.running.proofs.Laws.{on_place}
 use Rattle.walk.specs.Walk.{go_on, walk_from, write_on, text_from, end_of}
-
--- ---- what is written of a card
-
-pub answer_put : (out after : List ℕ) (at : ℕ) (a : Answer) → after ≡ sets out at (answer_bytes a) → Wrote out after at (at + 16) (answer_bytes a)
-answer_put out after at a g = record { place = omega (arith, length_answer a); bytes = g }
 
 -- ---- the walk
 

@@ -12,6 +12,7 @@ ghost use Rattle.lines.specs.Lines.{card_line};
 ghost use Rattle.running.specs.Running.{before_cards};
 ghost use Rattle.walk.specs.Walk.{nothing_of, walk_from, text_from, end_of, Within};
 
+use buffer::Writer;
 use card::Answer;
 use farthest::Leaders;
 use refusals::SentBack;
@@ -52,8 +53,9 @@ impl Writes for Answers {
     ghost most = { 16 };
 
     fn put(out: &mut [u8], at: usize, answer: Answer) -> usize {
-        encode::put_answer(out, at, answer);
-        at + 16
+        let mut card = Writer { bytes: out, at };
+        encode::put_answer(&mut card, answer);
+        card.at
     }
 }
 
@@ -66,7 +68,9 @@ impl Writes for Lines {
     ghost most = { 128 };
 
     fn put(out: &mut [u8], at: usize, answer: Answer) -> usize {
-        lines::put_card_line(out, at, answer)
+        let mut line = Writer { bytes: out, at };
+        lines::put_card_line(&mut line, answer);
+        line.at
     }
 }
 

@@ -7,4 +7,8 @@ use Rattle.std.proofs.lemmas.List.Edits.{sets-eq}
 use Rattle.buffer.proofs.put_text.Goals as goal
 
 pub returns : goal.returns
-returns c = record { place = refl; bytes = grind (arith, common_steps, sets-eq) }
+returns c = record {
+  same = refl;
+  long = grind (arith, common_steps);
+  wrote = record { place = refl; bytes = grind (arith, common_steps, sets-eq) };
+}

@@ -1,7 +1,7 @@
 -- `closing::put_leader` meets its contract: the letter and the word, or the line of the card.
 -- Assumes nothing.
 use Rattle.closing.proofs.Ends.{none_line, leader_line_lem}
-use borrow.Author.Rules.{rules}
+use Rattle.std.proofs.Common.{rules}
 use Rattle.closing.proofs.put_leader.Goals as goal
 
 pub returns-in_default : goal.returns-in_default

@@ -1,4 +1,4 @@
--- `decimal::put_fixed` meets its contract: the wholes, the dot and the decimals.
+-- `decimal::put_fixed` meets its contract: the power of ten is not 0.
 -- Assumes nothing.
 use Rattle.std.proofs.Common.{arith, rules}
 use Rattle.std.proofs.Math.Nat.{one-le-pow}

@@ -1,7 +1,7 @@
 -- `lines::put_card_line` meets its contract: the two halves of the line.
 -- Assumes nothing.
 use Rattle.lines.proofs.Ends.{card_line_lem}
-use borrow.Author.Rules.{rules}
+use Rattle.std.proofs.Common.{rules}
 use Rattle.lines.proofs.put_card_line.Goals as goal
 
 pub returns : goal.returns

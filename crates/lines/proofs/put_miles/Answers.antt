@@ -1,7 +1,7 @@
 -- `lines::put_miles` meets its contract: the distance and the line feed.
 -- Assumes nothing.
 use Rattle.lines.proofs.Ends.{miles_line}
-use borrow.Author.Rules.{rules}
+use Rattle.std.proofs.Common.{rules}
 use Rattle.lines.proofs.put_miles.Goals as goal
 
 pub returns : goal.returns

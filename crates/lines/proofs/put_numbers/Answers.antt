@@ -1,7 +1,7 @@
 -- `lines::put_numbers` meets its contract: three numbers, each with a space behind it.
 -- Assumes nothing.
 use Rattle.lines.proofs.Ends.{numbers_line}
-use borrow.Author.Rules.{rules}
+use Rattle.std.proofs.Common.{rules}
 use Rattle.lines.proofs.put_numbers.Goals as goal
 
 pub returns : goal.returns

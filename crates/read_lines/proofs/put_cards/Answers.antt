@@ -1,8 +1,9 @@
 use Rattle.std.specs.Prelude.{◌+◌, ◌*◌, ◌≡◌, Some, length}
-use Rattle.std.proofs.Common.{arith, sym}
+use Rattle.std.proofs.Common.{arith, rules, sym}
 use Rattle.std.proofs.lemmas.List.Edits.{sets}
 use Rattle.std.proofs.lemmas.Grind.{common_steps}
 use Rattle.std.specs.Iterator.Adapters.{zip_first, zip_second}
+use Rattle.buffer.proofs.Laws.{lent}
 use Rattle.comma.specs.Text.{cards_in, card_bytes}
 use Rattle.count_lines.specs.Left.{lines_left}
 use Rattle.read_lines.specs.Walk.{laid_from}

@@ -1,7 +1,7 @@
 -- `strict_line::put_codes` meets its contract: four numbers, each with a comma behind it.
 -- Assumes nothing.
 use Rattle.strict_line.proofs.Ends.{codes_line}
-use borrow.Author.Rules.{rules}
+use Rattle.std.proofs.Common.{rules}
 use Rattle.strict_line.proofs.put_codes.Goals as goal
 
 pub returns : goal.returns

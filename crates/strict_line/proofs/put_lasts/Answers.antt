@@ -1,7 +1,7 @@
 -- `strict_line::put_lasts` meets its contract: two numbers, each with a comma behind it, and the end of the line.
 -- Assumes nothing.
 use Rattle.strict_line.proofs.Ends.{lasts_line}
-use borrow.Author.Rules.{rules}
+use Rattle.std.proofs.Common.{rules}
 use Rattle.strict_line.proofs.put_lasts.Goals as goal
 
 pub returns : goal.returns

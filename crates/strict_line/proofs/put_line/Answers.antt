@@ -1,7 +1,7 @@
 -- `strict_line::put_line` meets its contract: the three parts of the line.
 -- Assumes nothing.
 use Rattle.strict_line.proofs.Ends.{whole_line}
-use borrow.Author.Rules.{rules}
+use Rattle.std.proofs.Common.{rules}
 use Rattle.strict_line.proofs.put_line.Goals as goal
 
 pub returns : goal.returns

@@ -1,12 +1,16 @@
 use Rattle.strict_lines.proofs.Turns.{put_start, line_fits, put_turn}
-use borrow.Author.Rules.{rules}
+use Rattle.std.proofs.Common.{rules}
+use Rattle.buffer.proofs.Laws.{lent}
 use Rattle.strict_lines.proofs.put_lines.Goals as goal
 
 pub loop-card-init : goal.loop-card-init
 loop-card-init c = search (put_start, rules)
 
-pub put_text-at-requires : goal.put_text-at-requires
-put_text-at-requires c = search (line_fits, rules)
+pub put_text-requires : goal.put_text-requires
+put_text-requires c = search (line_fits, rules)
 
 pub loop-card-preserved : goal.loop-card-preserved
-loop-card-preserved c = search (put_turn, rules)
+loop-card-preserved c =
+    let line = c.line_of-size.ensures in
+    let so_far = c.loop-card.invariant in
+    search (put_turn, lent c.put_text.ensures (search rules), rules)

@@ -1,7 +1,7 @@
 -- `strict_numbers::put_cas_end` meets its contract: two digits, a hyphen, one digit and a comma.
 -- Assumes nothing.
 use Rattle.strict_numbers.proofs.Ends.{cas_end_lem}
-use borrow.Author.Rules.{rules}
+use Rattle.std.proofs.Common.{rules}
 use Rattle.strict_numbers.proofs.put_cas_end.Goals as goal
 
 pub returns : goal.returns

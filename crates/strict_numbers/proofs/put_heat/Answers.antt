@@ -1,7 +1,7 @@
 -- `strict_numbers::put_heat` meets its contract: the number, with a minus in front below zero.
 -- Assumes nothing.
 use Rattle.strict_numbers.proofs.Ends.{heat_up, heat_down}
-use borrow.Author.Rules.{rules}
+use Rattle.std.proofs.Common.{rules}
 use Rattle.strict_numbers.proofs.put_heat.Goals as goal
 
 pub returns-then-heat-lt32768 : goal.returns-then-heat-lt32768
