@@ -1,7 +1,7 @@
 -- The second walk comes to what a text is.
 -- Assumes nothing.
 use Rattle.std.specs.Prelude.{Option, Some, None, Ok, Err}
-use Prim.Native.Nat.{ℕ, suc, ◌+◌, ◌*◌, ◌≤◌, ◌<◌}
+use Prim.Native.Nat.{ℕ, suc, ◌+◌, ◌*◌, ◌≤◌}
 use Rattle.std.proofs.Common.{arith, add-one, ap, ◌∙◌}
 use Rattle.std.specs.Prelude.{◌≡◌, List, [], ◌∷◌, length}
 use Rattle.std.proofs.Math.Path.{sym}
