@@ -1,12 +1,14 @@
 -- What a card comes to is the first of its conditions that holds.
 -- Assumes nothing.
-use Rattle.std.specs.Prelude.{is_none, ℕ, ◌≡◌, refl, List, drop, Option, Result, Ok, Err}
+use Rattle.std.specs.Prelude.{is_none, ℕ, ◌≡◌, refl, Bool, false, List, drop, Option, Result, Ok, Err}
 use Rattle.card.specs.declared.Answer.{Answer}
 use Rattle.scenario.specs.declared.Scenario.{Scenario}
 use Rattle.std.proofs.lemmas.Bool.Decides.{nat_tests}
 use Rattle.std.proofs.Common.{arith}
 use Rattle.std.proofs.Math.Bool.{true, not}
 use Rattle.search.specs.Places.{among}
+use Rattle.exhibits.specs.declared.Toxic.{Toxic}
+use Rattle.scenario.specs.declared.Tenths.{Tenths}
 use Rattle.combustion.specs.Heats.{is_flammable}
 use Rattle.scenario.specs.declared.ToxicCard.{ToxicCard}
 use Rattle.scenario.specs.Plan.{plan_of}
@@ -17,11 +19,11 @@ use Rattle.refusals.specs.declared.Refusal.{Refusal}
 use Rattle.refusals.specs.declared.Refusal.TheVariants as refusal
 use Rattle.form.specs.declared.Standing.{Standing}
 use Rattle.form.specs.declared.Shape.TheVariants as shape
-use Rattle.ranges.specs.Ranges.{bad_pounds, bad_area, bad_wall, bad_heat, signed, tenths_of, bad_tenths, is_out_of_range, bounds_of}
+use Rattle.ranges.specs.Ranges.{bad_pounds, bad_area, bad_wall, bad_heat, signed, tenths_of, bad_tenths, is_out_of_range, bounds_if, bounds_of}
 use Rattle.meaning.specs.declared.Meaning.{Meaning}
 use Rattle.meaning.specs.declared.Meaning.TheVariants as meaning
 use Rattle.form.specs.Form.{shape_of}
-use Rattle.meaning.specs.Reading.{substance_of, is_listed, toxic_meaning, flammable_of, meaning_of}
+use Rattle.meaning.specs.Reading.{substance_of, is_listed, meaning_if, toxic_bounded, toxic_meaning, flammable_of, meaning_of}
 use Rattle.form.specs.Inverse.{Stands, toxic_shape, flammable_shape}
 use Rattle.form.specs.Same.{flammable_blank}
 use Rattle.card.specs.Answers.{planned_answer, answer_for, answer_of}
@@ -41,6 +43,22 @@ verdict_of (Err r) = refused r
 -- what the lines behind 6 come to, where the form is sound
 abbrev behind_form : List ℕ → Verdict
 behind_form card = first_of (drop 2 (of_card card 0))
+
+-- ---- a check is a line of the table: where the same test decides both, and what comes behind them is the same
+
+-- of any call, by what it makes of a meaning, where it passes a refusal on
+module _ (told : Result Meaning Refusal → Verdict) (refusing : (r : Refusal) → told (Err r) ≡ refused r) where
+  -- a check of a meaning
+  meaning_line : (b : Bool) (r : Refusal) (further : Result Meaning Refusal) {v : Verdict} → (b ≡ false → told further ≡ v) → told (meaning_if b r further) ≡ pick b r v
+  meaning_line b r further h = grind (arith, refusing, h)
+
+  -- a check of a toxic card's ranges; the line may say its test in other words
+  bounds_line : (f : Fields) (x : Toxic) (standing : Standing) (b t : Bool) (r : Refusal) (further : Result Tenths Refusal) {v : Verdict} → b ≡ t → (b ≡ false → told (toxic_bounded further f x standing) ≡ v) → told (toxic_bounded (bounds_if b r further) f x standing) ≡ pick t r v
+  bounds_line f x standing b t r further e h = grind (arith, refusing, h)
+
+-- a line whose test fails is passed over
+unmet : (b : Bool) (r : Refusal) {v w : Verdict} → b ≡ false → v ≡ w → v ≡ pick b r w
+unmet b r e h = grind arith
 
 -- a form is refused for its form
 pub form_refused : (f : Fields) {r : Refusal} → shape_of f ≡ Err r → refusal.Form ≡ r

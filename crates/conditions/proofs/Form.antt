@@ -21,9 +21,17 @@ module _ (card : List ℕ) where
   unfolding unlisted among ground_of
   ground_form b = grind (arith, nat_tests)
 
-  vessel_form : (b : ℕ) → either (unlisted b (0 ∷ 1 ∷ 2 ∷ 3 ∷ [])) (either (both (eqb b 0) (filled card (12 ∷ 13 ∷ 14 ∷ 15 ∷ []))) (both (not (eqb b 1)) (filled card (16 ∷ 17 ∷ [])))) ≡ is_none (held_of b (four_at card 12) (two_at card 16))
-  unfolding unlisted among filled held_of open_of
-  vessel_form b = grind (arith, nat_tests)
+  held_form : (b area wall : ℕ) → either (unlisted b (0 ∷ 1 ∷ 2 ∷ 3 ∷ [])) (either (both (eqb b 0) (not (eqb area 0))) (both (not (eqb b 1)) (not (eqb wall 0)))) ≡ is_none (held_of b area wall)
+  unfolding unlisted among held_of open_of
+  held_form b area wall = grind (arith, nat_tests)
+
+  area_filled : filled card (12 ∷ 13 ∷ 14 ∷ 15 ∷ []) ≡ not (eqb (four_at card 12) 0)
+  unfolding filled
+  area_filled = grind (arith, nat_tests)
+
+  wall_filled : filled card (16 ∷ 17 ∷ []) ≡ not (eqb (two_at card 16) 0)
+  unfolding filled
+  wall_filled = grind (arith, nat_tests)
 
   -- the temperature, which is "for state 4; zero otherwise", or the concentration for state 5
   heat_form : (b : ℕ) (s : State) → state_of b ≡ Some s → both (unlisted b (4 ∷ 5 ∷ [])) (filled card (18 ∷ 19 ∷ [])) ≡ not (heat_fits s (two_at card 18))
@@ -34,7 +42,15 @@ module _ (card : List ℕ) where
   toxic_form : bad_toxic card ≡ is_err (shaped_state (state_of (fields_of card).state) (fields_of card))
   unfolding bad_toxic fields_of
   toxic_form =
-      grind (arith, state_form (byte_at card 1), ground_form (byte_at card 2), vessel_form (byte_at card 3), heat_form (byte_at card 1))
+      grind (
+        arith,
+        state_form (byte_at card 1),
+        ground_form (byte_at card 2),
+        area_filled,
+        wall_filled,
+        held_form (byte_at card 3) (four_at card 12) (two_at card 16),
+        heat_form (byte_at card 1),
+      )
 
   blank_form : bad_flammable card ≡ is_err (shaped_blank (blank (fields_of card)))
   unfolding bad_flammable filled fields_of blank

@@ -1,8 +1,7 @@
 -- Request A8, proved: no reported rate is below the exact one, and none is off by more than the request says.
 -- Assumes nothing.
-use Rattle.std.specs.Prelude.{ℕ, ◌+◌, ◌*◌, ◌≤◌, ◌<◌, ◌^◌, ◌≡◌, Bool, true, false, List, get_or, Option, Some, None, Result, Ok, Err}
+use Rattle.std.specs.Prelude.{ℕ, ◌+◌, ◌*◌, ◌≤◌, ◌<◌, ◌^◌, ◌≡◌, Bool, false, List, get_or, Option, Some, None, Result, Ok, Err}
 use Rattle.refusals.specs.declared.Refusal.{Refusal}
-use Rattle.units.specs.declared.Miles.{Miles}
 use Rattle.std.proofs.Common.{arith, ◌∙◌, sym, subst, subst₂}
 use Rattle.std.proofs.Math.Path.{refl}
 use Rattle.search.specs.Laws.{clash}
@@ -14,20 +13,15 @@ use Rattle.exhibits.specs.declared.Liquid as liquids
 use Rattle.exhibits.specs.Laws.{Within}
 use Rattle.exhibits.proofs.Laws.{within}
 use Rattle.solutions.proofs.SolutionLaws.{solution_within}
-use Rattle.dispersion.specs.Tables.{reading_of}
-use Rattle.release.specs.declared.Containment.{Containment}
-use Rattle.release.specs.declared.Containment.TheVariants.{Open, Dike, Building, ShedWithDoors}
 use Rattle.release.specs.Rates.{gas_rate, pool_rate, is_building}
 use Rattle.release.proofs.Laws.{product_below}
-use Rattle.pool_area.specs.Pool.{pool_area, beyond_dike}
+use Rattle.pool_area.specs.Pool.{pool_area}
 use Rattle.pool_area.proofs.Laws.{area_limit}
-use Rattle.which_table.specs.declared.State.{State}
-use Rattle.which_table.specs.declared.State.TheVariants.{Gas, Pressurized, Refrigerated, Liquid, Solution}
 use Rattle.factors.specs.Factors.{factors_of}
-use Rattle.factors.proofs.Laws.{FactorsWithin, factors_within}
+use Rattle.factors.proofs.Laws.{factors_within}
 use Rattle.scenario.specs.declared.ToxicCard.{ToxicCard}
 use Rattle.scenario.specs.declared.Scenario.{Scenario}
-use Rattle.scenario.specs.Plan.{Limits, vapor_of, pool_of, undiked, pooled, gas_plan, column_in, factored, liquid_plan, plan_for, plan_of}
+use Rattle.scenario.specs.Plan.{Limits, vapor_of, pool_of, gas_plan, column_in, liquid_plan, plan_for, plan_of}
 use Rattle.buffer.specs.Numbers.{byte_at, eight_at, two_bytes, four_bytes}
 use Rattle.buffer.proofs.Laws.{eight_in, read_eight}
 use Rattle.fields.specs.declared.Fields.{Fields}
@@ -39,7 +33,7 @@ use Rattle.meaning.specs.States.{by_state}
 use Rattle.meaning.specs.Ranges.{ranged}
 use Rattle.meaning.specs.Inverse.{toxic_from}
 use Rattle.card.specs.declared.Answer.{Answer}
-use Rattle.card.specs.Answers.{read_toxic, planned_answer, answer_for, answer_of}
+use Rattle.card.specs.Answers.{planned_answer, answer_for, answer_of}
 use Rattle.encode.specs.Bytes.{answer_bytes}
 use Rattle.encode.specs.Laws.{length_answer}
 use Rattle.cards.specs.Register.{buffer_of}
@@ -47,7 +41,7 @@ use Rattle.ordering.proofs.Order.{answer_first}
 use Rattle.ordering.specs.Claim.{card_at}
 use Rattle.promises.specs.Buffer.{buffer_answer}
 use Rattle.rate_gap.specs.Fractions.{◌over◌, Defined, ◌equals◌}
-use Rattle.rate_gap.specs.Exact.{Chain, blast, gas_over, pool_over, pick, gas_chain, liquid_chain, toxic_chain, chain_in, chain_of, route_in, exact_in}
+use Rattle.rate_gap.specs.Exact.{Chain, blast, gas_over, pool_over, gas_chain, liquid_chain, toxic_chain, chain_in, chain_of, route_in, exact_in}
 use Rattle.rate_gap.proofs.Rounding.{area_rounded, gas_equals, gas_defined, pool_defined, slack_defined, pool_at_least, pool_below}
 use Rattle.rate_gap.specs.Claim.{slack_in, Near, RatesNear}
 
@@ -79,25 +73,13 @@ abbrev Says : Chain → Option Scenario → Type 0
 Says chain (Some s) = NearTo chain s
 Says chain None = Unit {0}
 
-undiked_says : (c : Containment) (chain : Chain) (s : Scenario) → NearTo chain s → Says chain (undiked c s)
-undiked_says Open chain s n = n
-undiked_says (Dike d) chain s n = tt
-undiked_says (Building b) chain s n = n
-undiked_says (ShedWithDoors d) chain s n = n
-
-pooled_says : (b : Bool) (c d : Chain) (p v : Scenario) → NearTo c p → NearTo d v → Says (pick b c d) (pooled b p v)
-pooled_says true c d p v m n = m
-pooled_says false c d p v m n = n
-
 -- document 01's limits keep a rate within eight bytes
 gas_below_limit : (pounds : ℕ) (inside : Bool) → pounds ≤ 10_000_000 → gas_rate pounds inside < 2 ^ 64
-gas_below_limit pounds false h = omega arith
-gas_below_limit pounds true h = omega arith
+gas_below_limit pounds inside h = grind arith
 
 pool_below_limit : (lf tcf area : ℕ) (shed : Bool) → lf ≤ 1_000_000 → tcf ≤ 1_000 → area ≤ 2_600_000_000 → pool_rate lf tcf area shed < 2 ^ 64
 unfolding pool_rate
-pool_below_limit lf tcf area false l t a = omega (arith, product_below lf tcf area l t a)
-pool_below_limit lf tcf area true l t a = omega (arith, product_below lf tcf area l t a)
+pool_below_limit lf tcf area shed l t a = grind (arith, product_below lf tcf area l t a)
 
 module _ (card : ToxicCard) (limits : Limits card) where
   vapor_near : (endpoint : ℕ) (plume : Plume) → NearTo (gas_over card) (vapor_of card endpoint plume)
@@ -130,36 +112,24 @@ module _ (card : ToxicCard) (limits : Limits card) where
         fits = pool_below_limit lf tcf (pool_area card.quantity.0 df card.containment) shed l t (area_limit df card.containment limits.quantity d);
       }
 
-  gas_says : (st : State) (g : gases.Gas) → Within (variants.OfGas g) → Says (gas_chain st card g) (gas_plan st card g)
-  gas_says Gas g w = undiked_says card.containment _ _ (vapor_near g.endpoint g.plume)
-  gas_says Pressurized g w = undiked_says card.containment _ _ (vapor_near g.endpoint g.plume)
-  gas_says Refrigerated g w =
-      pooled_says (beyond_dike card.quantity.0 g.df card.containment) _ _ _ _
-      (pool_near g.df g.lfb 100 false g.endpoint g.plume w.df_limit w.lfb_limit (omega arith))
-      (vapor_near g.endpoint g.plume)
-  gas_says Liquid g w = tt
-  gas_says Solution g w = tt
+  gas_says : (g : gases.Gas) → Within (variants.OfGas g) → Says (gas_chain card.state card g) (gas_plan card.state card g)
+  gas_says g w =
+      grind (arith, vapor_near g.endpoint g.plume, pool_near g.df g.lfb 100 false g.endpoint g.plume w.df_limit w.lfb_limit (omega arith))
 
-  factored_says : (f : Option (ℕ × ℕ)) (l : liquids.Liquid) → FactorsWithin f → Within (variants.OfLiquid l) → Says (liquid_chain f card l) (factored f card l)
-  factored_says (Some (lf, tcf)) l f w =
-      pool_near l.df lf tcf (is_building card.containment) l.endpoint l.plume w.df_limit f.0 f.1
-  factored_says None l f w = tt
-
-  liquid_says : (st : State) (l : liquids.Liquid) → Within (variants.OfLiquid l) → Says (liquid_chain (factors_of l (column_in card.tenths)) card l) (liquid_plan st card l)
-  liquid_says Gas l w = tt
-  liquid_says Pressurized l w = tt
-  liquid_says Refrigerated l w = tt
-  liquid_says Liquid l w =
-      factored_says (factors_of l (column_in card.tenths)) l (factors_within l (column_in card.tenths) w) w
-  liquid_says Solution l w = tt
+  liquid_says : (l : liquids.Liquid) → Within (variants.OfLiquid l) → Says (liquid_chain (factors_of l (column_in card.tenths)) card l) (liquid_plan card.state card l)
+  liquid_says l w =
+      grind (
+        arith,
+        factors_within l (column_in card.tenths) w,
+        λ (lf tcf : ℕ) (a : lf ≤ 1_000_000) (b : tcf ≤ 1_000). pool_near l.df lf tcf (is_building card.containment) l.endpoint l.plume w.df_limit a b,
+      )
 
   entry_says : (x : Toxic) → Within x → Says (toxic_chain x card) (plan_for x card)
-  entry_says (variants.OfGas g) w = gas_says card.state g w
-  entry_says (variants.OfLiquid l) w = liquid_says card.state l w
+  entry_says (variants.OfGas g) w = gas_says g w
+  entry_says (variants.OfLiquid l) w = liquid_says l w
   entry_says (variants.OfSolution s) w =
       pool_near s.df s.lfa 100 (is_building card.containment) s.endpoint s.plume w.df_limit w.lfa_limit (omega arith)
-  entry_says variants.OutOfRange w = tt
-  entry_says variants.NotListed w = tt
+  entry_says _ w = tt
 
 -- ---- of an answer
 
@@ -167,14 +137,8 @@ abbrev SaysOf : Chain → Result Answer Refusal → Type 0
 SaysOf chain (Ok a) = Reported chain a.route a.rate.0
 SaysOf chain (Err r) = Unit {0}
 
-read_says : (x : Option Miles) (n : ℕ) (chain : Chain) (s : Scenario) → NearTo chain s → SaysOf chain (read_toxic x n s)
-read_says (Some d) n chain s m = m
-read_says None n chain s m = tt
-
 plan_says : (p : Option Scenario) (n : ℕ) (card : ToxicCard) (chain : Chain) → Says chain p → SaysOf chain (planned_answer p n card)
-plan_says (Some s) n card chain m =
-    read_says (reading_of s.table card.topography s.rate.0 s.endpoint) n chain s m
-plan_says None n card chain m = tt
+plan_says p n card chain m = grind (arith, m)
 
 -- a toxic card that was read is within document 01's limits
 limits_of : (f : Fields) (last : ℕ) (card : ToxicCard) → meaning_of f last ≡ Ok (meaning.Toxic card) → Limits card

@@ -40,22 +40,18 @@ area_rounded pounds df (ShedWithDoors s) = as_held (min s.floor.0 (full_area pou
 
 -- a gas's rate is not off
 pub gas_equals : (pounds : ℕ) (inside : Bool) → gas_rate pounds inside over 1_000 equals exact_gas pounds inside
-gas_equals pounds false = omega arith
-gas_equals pounds true = omega arith
+gas_equals pounds inside = grind arith
 
 pub gas_defined : (pounds : ℕ) (inside : Bool) → Defined (exact_gas pounds inside)
-gas_defined pounds false = omega arith
-gas_defined pounds true = omega arith
+gas_defined pounds inside = grind arith
 
 pub slack_defined : (lf tcf : ℕ) (shed : Bool) → Defined (slack lf tcf shed)
-slack_defined lf tcf false = omega arith
-slack_defined lf tcf true = omega arith
+slack_defined lf tcf shed = grind arith
 
 -- a pool's rate, from an area that was rounded up
 module _ (lf tcf : ℕ) (area : Fraction) (hundredths : ℕ) (r : Rounded area hundredths) where
   pub pool_defined : (shed : Bool) → Defined (exact_pool lf tcf area shed)
-  pool_defined false = let d = r.defined in omega arith
-  pool_defined true = let d = r.defined in omega arith
+  pool_defined shed = let d = r.defined in grind arith
 
   -- a rate that is rounded up in any unit, from the rounded area: it covers what the exact area gives,
   covers : (rate unit : ℕ) → 14 * (lf * tcf * hundredths) ≤ rate * unit → 14 * (lf * tcf * (area.numerator * 100)) ≤ rate * unit * area.denominator

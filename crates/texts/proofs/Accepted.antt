@@ -1,24 +1,22 @@
 -- What acceptance says of a register: what stands in its header, that the writer takes it, and that none of its cards' meanings
 -- is a refusal.
 -- Assumes nothing.
-use Rattle.std.specs.Prelude.{ℕ, zero, suc, ◌+◌, ◌*◌, ◌≤◌, ◌≡◌, refl, List, [], ◌∷◌, ltb, length, take, drop, Result, Ok, Err}
-use Rattle.std.proofs.Common.{arith, subst, ltb-false, eqb-true}
-use Rattle.std.proofs.lemmas.Bool.{not-false}
+use Rattle.std.specs.Prelude.{ℕ, zero, suc, ◌+◌, ◌*◌, ◌≤◌, ◌≡◌, refl, List, [], ◌∷◌, length, take, drop, Result, Ok, Err}
+use Rattle.std.proofs.Common.{arith, subst}
+use Rattle.std.proofs.lemmas.Bool.Decides.{nat_tests}
 use Rattle.search.specs.Laws.{clash}
-use Rattle.search.specs.PlaceLaws.{neither}
 use Rattle.buffer.specs.Numbers.{byte_at, four_at}
 use Rattle.fields.specs.declared.Fields.{Fields}
 use Rattle.fields.specs.Layout.{fields_of}
 use Rattle.refusals.specs.declared.Refusal.{Refusal}
-use Rattle.meaning.specs.declared.Meaning.TheVariants as meaning
 use Rattle.meaning.specs.Reading.{meaning_of}
 use Rattle.card.specs.declared.Answer.{Answer}
 use Rattle.card.specs.Answers.{answer_of}
 use Rattle.card.specs.Number.{answer_number}
 use Rattle.header.specs.Header.{enough, count_of, bad_length, bad_version, bad_count, header_of}
-use Rattle.cards.specs.Register.{answers, then, cards_from, after_header, outcome_of}
+use Rattle.cards.specs.Register.{answers, then, cards_from, outcome_of}
 use Rattle.cards.proofs.Laws.{joined_is}
-use Rattle.ordering.proofs.Found.{Checked, checked, any_room, found}
+use Rattle.ordering.proofs.Found.{any_room, found}
 use Rattle.comma.specs.Strict.{fields_from}
 use Rattle.write_lines.specs.Writing.{fields_of_register}
 use Rattle.texts.specs.Claim.{Accepted}
@@ -32,26 +30,16 @@ pub record Headed (register : List ℕ) : Type 0 where
   pub few : count_of register ≤ 2_000
   pub long : length register ≡ 7 + 24 * count_of register
 
-checked_headed : (register : List ℕ) (room n : ℕ) → Checked register room n → Headed register
-unfolding bad_length bad_version bad_count
-checked_headed register room n c =
-    let size = neither (ltb (length register) 7) _ c.whole in
-    let cards = neither (ltb 2_000 (count_of register)) _ c.cards in
-    record {
-      whole = eqb-true _ _ (not-false _ size.1);
-      version = eqb-true _ _ (not-false _ c.version);
-      few = ltb-false _ _ cards.0;
-      long = eqb-true _ _ (not-false _ cards.1);
-    }
-
 -- an accepted register is one
 pub headed : (register : List ℕ) → Accepted register → Headed register
-unfolding outcome_of
-headed register (buffer, leaders, e) = go (header_of register (length buffer)) refl e
-  where
-    go : (h : Result ℕ Refusal) → header_of register (length buffer) ≡ h → after_header h register ≡ Ok leaders → Headed register
-    go (Ok n) p q = checked_headed register (length buffer) n (checked register (length buffer) n p)
-    go (Err r) p q = clash (cc)
+unfolding outcome_of header_of bad_length bad_version bad_count
+headed register (buffer, leaders, e) =
+    record {
+      whole = grind (arith, nat_tests, e);
+      version = grind (arith, nat_tests, e);
+      few = grind (arith, nat_tests, e);
+      long = grind (arith, nat_tests, e);
+    }
 
 -- the writer, who is lent no answer buffer, takes it
 pub taken : (register : List ℕ) (a : Accepted register) → outcome_of register enough ≡ Ok a.1

@@ -1,13 +1,13 @@
 -- A register that its cards tell: it is the register of the cards in it. An accepted register of bytes is one, and so is whatever
 -- a text reads into.
 -- Assumes nothing.
-use Rattle.std.specs.Prelude.{ℕ, ◌≤◌, ◌≡◌, refl, Bool, true, false, List, ◌++◌, ltb, length, take, drop, Result, Ok, Err}
+use Rattle.std.specs.Prelude.{ℕ, ◌≤◌, ◌≡◌, refl, Bool, true, false, List, ◌++◌, length, take, drop, Result, Ok, Err}
 use Rattle.refusals.specs.declared.SentBack.{SentBack}
 use Rattle.refusals.specs.Numbers.{refused_at}
-use Rattle.std.proofs.Common.{arith, sym, ap, subst, ◌∙◌, ltb-false, le-ltb}
+use Rattle.std.proofs.Common.{arith, sym, ap, subst, ◌∙◌}
+use Rattle.std.proofs.lemmas.Bool.Decides.{nat_tests}
 use Rattle.std.proofs.Math.Seq.{take-append_seam}
 use Rattle.search.specs.Laws.{clash}
-use Rattle.search.specs.PlaceLaws.{neither}
 use Rattle.fields.specs.declared.Fields.{Fields}
 use Rattle.refusals.specs.declared.Refusal.TheVariants as refusal
 use Rattle.header.specs.Header.{count_of}
@@ -55,11 +55,11 @@ pub record Read (text register : List ℕ) : Type 0 where
 -- 13 lets pass at most 2,000 cards, and those wherever they have room
 room_few : (count room : ℕ) → bad_room count room ≡ false → count ≤ 2_000
 unfolding bad_room
-room_few count room e = ltb-false 2_000 count (neither (ltb 2_000 count) _ e).0
+room_few count room e = grind (arith, nat_tests)
 
 room_enough : (count room : ℕ) → count ≤ 2_000 → size_of count ≤ room → bad_room count room ≡ false
 unfolding bad_room
-room_enough count room few h = rw (le-ltb 2_000 count few, le-ltb room (size_of count) h)
+room_enough count room few h = grind (arith, nat_tests)
 
 pub bytes_are : {m n : ℕ} → ◌≡◌ {A = Result ℕ (SentBack ℕ)} (Ok m) (Ok n) → m ≡ n
 bytes_are e = cc
