@@ -16,7 +16,7 @@ pub loop-place-preserved : goal.loop-place-preserved
 loop-place-preserved c =
     let so_far = c.loop-place.invariant in (
       lay_turn _ _ _ _ so_far.1 _ (search rules) c.line_end-end.ensures.value _ c.line_of.ensures _ _ _ (search rules)
-      c.put_card.ensures.wrote (search rules) refl so_far.0,
+          c.put_card.ensures.wrote (search rules) refl so_far.0,
       search (lay_next, rules),
       search rules,
     )

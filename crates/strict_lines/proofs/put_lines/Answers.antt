@@ -12,6 +12,9 @@ put_text-requires c = search (line_fits, rules)
 pub loop-place-preserved : goal.loop-place-preserved
 loop-place-preserved c =
     let line = c.line_at-size.ensures in
-    let so_far = c.loop-place.invariant in
-    (search rules, search rules, search rules,
-        put_turn _ _ _ _ _ line.wrote line.upper_bound (search rules) _ _ _ so_far.3 _ _ (lent c.put_text.ensures (search rules)))
+    let so_far = c.loop-place.invariant in (
+      search rules,
+      search rules,
+      search rules,
+      put_turn _ _ _ _ _ line.wrote line.upper_bound (search rules) _ _ _ so_far.3 _ _ (lent c.put_text.ensures (search rules)),
+    )
