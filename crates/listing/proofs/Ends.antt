@@ -2,7 +2,6 @@
 -- Assumes nothing.
 use Rattle.std.specs.Prelude.{Some, None, Result, Ok, Err}
 use Rattle.refusals.specs.declared.SentBack.{SentBack}
-use Rattle.refusals.specs.Numbers.{refused_at}
 use Prim.Native.Nat.{ℕ, ◌-◌, ◌*◌, ◌≤◌, ◌<◌}
 use native.Mathlib.Omega.{arith}
 use mathlib.Core.Path.{◌≡◌, ◌∙◌, ap, sym, subst}
