@@ -4,9 +4,9 @@
 use Rattle.std.specs.Prelude.{Result, Ok, Err}
 use Rattle.farthest.specs.declared.Leaders.{Leaders}
 use Rattle.refusals.specs.declared.SentBack.{SentBack}
-use Prim.Native.Nat.{ℕ, suc, zero, ◌+◌, ◌*◌, ◌≤◌}
+use Prim.Native.Nat.{ℕ, suc, zero, ◌*◌, ◌≤◌}
 use native.Mathlib.Omega.{arith}
-use mathlib.Core.Path.{◌≡◌, ◌∙◌, refl, ap, sym, subst}
+use mathlib.Core.Path.{◌≡◌, ◌∙◌, refl, ap, sym}
 use mathlib.Core.List.{List, [], ◌∷◌, ◌++◌}
 use lib.ListN.{length, take, drop}
 use lib.Seq.{sets, take_at}

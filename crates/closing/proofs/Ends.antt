@@ -1,6 +1,6 @@
 -- One law for each line: its parts, written one after the other, are the line.
 -- Assumes nothing.
-use Rattle.std.specs.Prelude.{ℕ, ◌≡◌, List, [], ◌∷◌, Option, Some, None}
+use Rattle.std.specs.Prelude.{ℕ, ◌≡◌, [], ◌∷◌, Option, Some, None}
 use Rattle.std.proofs.Common.{sym, subst}
 use Rattle.farthest.specs.declared.Leader.{Leader}
 use Rattle.buffer.specs.declared.Writer.{Writer}

@@ -1,7 +1,7 @@
 -- The digits in a base have their length, and they are right: reading them gives the number.
 -- Assumes nothing.
-use Rattle.std.specs.Prelude.{◌≡◌, ℕ, zero, suc, ◌+◌, ◌*◌, ◌-◌, ◌/◌, ◌%◌, ◌^◌, ◌<◌, ◌≤◌, Bool, true, false, List, [], ◌∷◌, ◌++◌, length, ltb, refl}
-use Rattle.std.proofs.Common.{arith, ap, sym, ◌∙◌, length-append, lt-ltb, le-ltb, ltb-true, ltb-false, div-add-mod', div-lt_iff_lt-mul}
+use Rattle.std.specs.Prelude.{◌≡◌, ℕ, zero, suc, ◌+◌, ◌*◌, ◌/◌, ◌%◌, ◌^◌, ◌<◌, ◌≤◌, Bool, true, false, List, [], ◌∷◌, ◌++◌, length, ltb, refl}
+use Rattle.std.proofs.Common.{arith, ap, ◌∙◌, length-append, lt-ltb, le-ltb, ltb-true, ltb-false, div-add-mod', div-lt_iff_lt-mul}
 use Rattle.std.proofs.Math.Nat.{pow-zero, pow-suc}
 use Rattle.decimal.specs.Digits.{digit, digits_in, digit_read, read_in}
 use Rattle.decimal.specs.Decimal.{padded}

@@ -1,6 +1,6 @@
 -- The five fields of `put_answer` put together.
 -- Assumes nothing.
-use Rattle.std.specs.Prelude.{ℕ, ◌≡◌, [], ◌∷◌, ◌++◌}
+use Rattle.std.specs.Prelude.{ℕ, ◌≡◌, [], ◌∷◌}
 use Rattle.std.proofs.Common.{subst}
 use Rattle.buffer.specs.Numbers.{two_bytes, four_bytes, eight_bytes}
 use Rattle.buffer.specs.declared.Writer.{Writer}

@@ -1,7 +1,7 @@
 -- One law for each way out of a function that goes by tests, and for what a call on the way asks.
 -- `search (law, rules)` puts them to use.
 -- Assumes nothing.
-use Rattle.std.proofs.Common.{◌≡◌, ℕ, suc, ◌+◌, ◌-◌, ◌*◌, ◌^◌, ◌<◌, ◌≤◌, true, false, T, List, ℤ, pos, sym, refl, ap, ◌∙◌, subst, add-one, arith, lt→ltb, w64, Fits}
+use Rattle.std.proofs.Common.{◌≡◌, ℕ, suc, ◌+◌, ◌*◌, ◌^◌, ◌≤◌, true, false, T, ℤ, pos, sym, refl, ap, ◌∙◌, subst, add-one, arith, lt→ltb, w64, Fits}
 use lib.Ieee.{Float, fin, up, down, lt, le, to_unsigned}
 use lib.Ieee.Fits.{down_pos}
 use Rattle.buffer.specs.declared.Writer.{Writer}

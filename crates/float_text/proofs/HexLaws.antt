@@ -1,11 +1,11 @@
 -- The pattern has its length, and it is right: reading it gives the float.
 -- Assumes nothing.
-use Rattle.std.specs.Prelude.{◌≡◌, ℕ, T, length, from_bits, to_bits, Float}
+use Rattle.std.specs.Prelude.{◌≡◌, T, length, from_bits, to_bits, Float}
 use Rattle.std.proofs.Common.{arith, ap, ◌∙◌}
 use Rattle.std.specs.Float.{binary64}
 use Rattle.std.specs.Float.Ieee.{fits}
 use Rattle.std.specs.Float.Ieee.Bits.{of_bits-to_bits, to_bits-lt}
-use Rattle.decimal.specs.Digits.{digits_in, read_in}
+use Rattle.decimal.specs.Digits.{read_in}
 use Rattle.decimal.proofs.DigitLaws.{length_in, in_read}
 use Rattle.float_text.specs.Hex.{pattern_of}
 

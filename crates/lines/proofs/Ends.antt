@@ -1,6 +1,6 @@
 -- One law for each part of a card's line: what is written one after the other is the part.
 -- Assumes nothing.
-use Rattle.std.specs.Prelude.{ℕ, ◌≡◌, List, [], ◌∷◌, ◌++◌}
+use Rattle.std.specs.Prelude.{ℕ, ◌≡◌, [], ◌∷◌, ◌++◌}
 use Rattle.std.proofs.Common.{subst}
 use Rattle.card.specs.declared.Answer.{Answer}
 use Rattle.buffer.specs.declared.Writer.{Writer}

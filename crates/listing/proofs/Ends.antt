@@ -21,17 +21,19 @@ use Rattle.walk.specs.Walk.{walk_from, text_from}
 use Rattle.walk.specs.Walk.{Within as Reached}
 use Rattle.cards.specs.Register.{outcome_of}
 use Rattle.cards.proofs.Walked.{passed}
+use Rattle.buffer.specs.declared.Writer.{Writer}
 use Rattle.buffer.specs.Wrote.{Wrote}
-use Rattle.buffer.proofs.Laws.{joined, written_first}
+use Rattle.buffer.specs.Puts.{Puts}
+use Rattle.buffer.proofs.Laws.{joined, then, written_first}
 use Rattle.closing.specs.Closing.{leader_line, refused_line, too_long, unless_long}
 use Rattle.listing.specs.Listing.{longest, leader_lines, listed_after, text_of, listing_room, if_room, listed_of, kept_if, listed_into}
 use Rattle.listing.specs.Laws.{IsAccepted}
 use Rattle.listing.proofs.Laws.{accepted_text, accepted_walk, sent_back_text}
 
-module _ {b₀ b₁ b₂ : List ℕ} {at mid end : ℕ} where
-  pub leaders_line : (l : Leaders) → Wrote b₀ b₁ at mid (leader_line 84 l.toxic) → Wrote b₁ b₂ mid end (leader_line 70 l.flammable) → Wrote b₀ b₂ at end (leader_lines l)
-  unfolding leader_lines
-  leaders_line l toxic flammable = joined toxic flammable
+pub leaders_line : (l : Leaders) {b₀ b₁ b₂ : Writer} → Puts b₀ b₁ (leader_line 84 l.toxic) → Puts b₁ b₂ (leader_line 70 l.flammable)
+    → Puts b₀ b₂ (leader_lines l)
+unfolding leader_lines
+leaders_line l toxic flammable = then toxic flammable
 
 module _ {out after : List ℕ} {end : ℕ} (bytes : List ℕ) (accepted : IsAccepted (outcome_of bytes enough)) (cards : List (List ℕ)) (k : length cards ≡ two_at bytes 5) (b : concat cards ≡ drop 7 bytes) (x : Result (Running × ℕ) (SentBack ℕ)) (w : x ≡ walk_from card_line (length cards) before_cards 0 (concat cards)) where
   -- the cards' lines, and the leaders' behind them

@@ -16,8 +16,6 @@ use Rattle.header.proofs.Cards.{Sized, cards_more}
 use Rattle.buffer.specs.Wrote.{Wrote}
 use Rattle.buffer.proofs.Laws.{sets_append}
 use Rattle.card.specs.declared.Answer.{Answer}
-use Rattle.encode.specs.Bytes.{answer_bytes}
-use Rattle.encode.specs.Laws.{length_answer}
 use Rattle.running.specs.declared.Running.{Running}
 use Rattle.running.specs.Running.{step_of}
 use Rattle.running.proofs.Laws.{on_place}

@@ -1,7 +1,8 @@
 -- `listing::list` meets its contract: a buffer without room is kept; in any other stands the text, and behind it what was there.
 -- Assumes nothing.
 use Rattle.listing.proofs.Ends.{no_room, kept, long_listed, long_into, short_listed, short_into}
-use borrow.Author.Rules.{rules}
+use Rattle.std.proofs.Common.{rules}
+use Rattle.buffer.proofs.Laws.{lent}
 use Rattle.listing.proofs.list.Goals as goal
 
 pub returns-in_default : goal.returns-in_default
@@ -10,10 +11,10 @@ returns-in_default c = search (no_room, kept, rules)
 pub returns-then-register-gt-LONGEST : goal.returns-then-register-gt-LONGEST
 returns-then-register-gt-LONGEST c =
     let front = c.in-Some.ensures.cases in
-    let line = c.put_too_long.ensures in
+    let line = lent c.put_too_long.ensures.wrote (search rules) in
     record {
-      value = long_listed _ _ front.enough front.same _ c.if-register-gt-LONGEST.true line.wrote;
-      out_after = long_into _ _ front.enough front.same _ c.if-register-gt-LONGEST.true line.wrote line.upper_bound;
+      value = long_listed _ _ front.enough front.same _ c.if-register-gt-LONGEST.true line;
+      out_after = long_into _ _ front.enough front.same _ c.if-register-gt-LONGEST.true line c.put_too_long.ensures.upper_bound;
       within = search rules;
     }
 

@@ -1,8 +1,9 @@
 -- `listing::put_leaders` meets its contract: the line of T, then the line of F.
 -- Assumes nothing.
+use Rattle.std.proofs.Common.{rules}
+use Rattle.buffer.proofs.Laws.{lent}
 use Rattle.listing.proofs.Ends.{leaders_line}
-use borrow.Author.Rules.{rules}
 use Rattle.listing.proofs.put_leaders.Goals as goal
 
-pub returns : goal.returns
-returns c = search (leaders_line, rules)
+pub returns-clause-wrote : goal.returns-clause-wrote
+returns-clause-wrote c = lent (leaders_line _ c.put_leader.ensures.wrote c.put_leader-2.ensures.wrote) (search rules)
