@@ -7,6 +7,8 @@ use Rattle.std.specs.Prelude.{◌≡◌, List, [], ◌∷◌, length}
 use Rattle.std.proofs.Math.Path.{sym}
 use Rattle.std.proofs.lemmas.List.Edits.{sets}
 use Rattle.search.specs.Laws.{clash}
+use Rattle.buffer.specs.declared.Writer.{Writer}
+use Rattle.buffer.specs.Puts.{Puts}
 use Rattle.buffer.proofs.Laws.{sets_append}
 use Rattle.fields.specs.declared.Fields.{Fields}
 use Rattle.comma.specs.Line.{line_of}
@@ -39,13 +41,17 @@ module _ (count place : ℕ) (left : List (List ℕ)) (counted : Ok count ≡ co
     pub lay_next : (c : Fields) → x ≡ Some c → Ok count ≡ count_from (place + 1) (cards_from (place + 1 + 1) others)
     lay_next c q = count_turn (Ok count) place left counted line others e x f c q
 
-    pub lay_turn : (whole out after : List ℕ) (c : Fields) → x ≡ Some c → whole ≡ laid_from (7 + 24 * place) (cards_from (place + 1) left) out
-        → after ≡ sets out (7 + 24 * place) (card_bytes c) → whole ≡ laid_from (7 + 24 * (place + 1)) (cards_from (place + 1 + 1) others) after
-    lay_turn whole out after c q w a =
+    pub lay_turn : (whole after : List ℕ) (c : Fields) {behind next : Writer} → x ≡ Some c → Puts behind next (card_bytes c)
+        → after ≡ next.bytes.now → behind.at ≡ 7 + 24 * place → whole ≡ laid_from (7 + 24 * place) (cards_from (place + 1) left) behind.bytes.now
+        → whole ≡ laid_from (7 + 24 * (place + 1)) (cards_from (place + 1 + 1) others) after
+    lay_turn whole after c {behind} {next} q put a there w =
         let good = line_good (place + 1) left line others e x f c q in
+        let out = behind.bytes.now in
+        let laid : after ≡ sets out (7 + 24 * place) (card_bytes c) =
+        a ∙ put.wrote.bytes ∙ ap (λ (k : ℕ). sets out k (card_bytes c)) there in
         laid_on out whole place count c (cards_from (suc (place + 1)) others)
         (counted ∙ ap (count_from place) good) (w ∙ ap (λ (r : Cards). laid_from (7 + 24 * place) r out) good)
-        ∙ ap (laid_from (7 + 24 * (place + 1)) (cards_from (suc (place + 1)) others)) (sym a)
+        ∙ ap (laid_from (7 + 24 * (place + 1)) (cards_from (suc (place + 1)) others)) (sym laid)
         ∙ ap (λ (k : ℕ). laid_from (7 + 24 * (place + 1)) (cards_from k others) after) (sym (add-one (place + 1)))
 
     -- a line that is not well formed cannot be met here

@@ -30,11 +30,16 @@ loop-place-preserved c =
     let next : (zip_first t).start ≡ place + 1 = grind (arith, common_steps) in
     let end : (zip_first t).end ≡ c.args.count = grind (arith, common_steps) in
     let good : c.line_of.result ≡ Some fields = grind (arith, common_steps) in
-    let put : c.put_card.new.out ≡ sets c.loop-place.out (7 + 24 * place) (card_bytes fields) = rw (sym here) c.put_card.ensures in
-    let size : length c.put_card.new.out ≡ length c.args.out.now = grind (arith, common_steps) in
-    let turned = lay_turn c.args.count place left c.loop-place.invariant.3 c.in-Some.line.now others c.in-Some.ensures.steps.1 c.line_of.result c.line_of.ensures (laid_from 7 (cards_in c.args.text.now) c.args.out.now) c.loop-place.out c.put_card.new.out fields good c.loop-place.invariant.2 put in
-    let counted = lay_next c.args.count place left c.loop-place.invariant.3 c.in-Some.line.now others c.in-Some.ensures.steps.1 c.line_of.result c.line_of.ensures fields good in
-    ((tt, tt), tt, rw next turned, rw next counted, end, size)
+    let counted = lay_next c.args.count place left c.loop-place.invariant.3 c.in-Some.line.now others c.in-Some.ensures.steps.1 c.line_of.result c.line_of.ensures fields good in (
+      (tt, tt),
+      tt,
+      rw next
+          (lay_turn c.args.count place left c.loop-place.invariant.3 c.in-Some.line.now others c.in-Some.ensures.steps.1 c.line_of.result c.line_of.ensures _ _ fields good
+              c.put_card.ensures.wrote (search rules) (rw here) c.loop-place.invariant.2),
+      rw next counted,
+      end,
+      search rules,
+    )
 
 pub returns : goal.returns
 returns c =

@@ -11,6 +11,10 @@ put_text-requires c = search (line_fits, rules)
 
 pub loop-card-preserved : goal.loop-card-preserved
 loop-card-preserved c =
-    let line = c.line_of-size.ensures in
-    let so_far = c.loop-card.invariant in
-    search (put_turn, lent c.put_text.ensures (search rules), rules)
+    let line = c.line_of-size.ensures in (
+      search rules,
+      search rules,
+      search rules,
+      put_turn c.args.cards.now (search rules) c.loop-card.card-index (search rules) _ _ _ line.wrote line.upper_bound (search rules) _ _ _ c.loop-card.invariant.3 _ _
+          (lent c.put_text.ensures (search rules)),
+    )
