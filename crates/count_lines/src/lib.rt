@@ -1,4 +1,5 @@
-// The lines of a text, one by one, and counted, or the first of them that is not well formed: the first walk of the reader of comma lines.
+// The lines of a text, one by one, and their count, or the first of them that is not well formed: the first walk of the reader of
+// comma lines.
 #![tactic(auto)]
 
 ghost use Rattle.std.specs.Prelude.{◌≡◌};
