@@ -94,6 +94,7 @@ pub extern "C" fn rings_likely(
 
 // Tells whether a stored answer, its sixteen bytes, is old: 1 where it was read off Table 13, else 0.
 #[unsafe(no_mangle)]
+#[tactic(auto, unfolding(words::specs::Words::flag_of))]
 pub extern "C" fn rings_is_old(answer: &[u8; 16]) -> u64
     ensures { result ≡ flag_of (is_old answer.now) }
 {

@@ -11,10 +11,10 @@ returns-in_default c = search (no_room, kept, rules)
 pub returns-then-register-gt-LONGEST : goal.returns-then-register-gt-LONGEST
 returns-then-register-gt-LONGEST c =
     let front = c.in-Some.ensures.cases in
-    let line = lent c.put_too_long.ensures.wrote (search rules) in
+    let line = c.put_too_long.ensures in
     record {
-      value = long_listed _ _ front.enough front.same _ c.if-register-gt-LONGEST.true line;
-      out_after = long_into _ _ front.enough front.same _ c.if-register-gt-LONGEST.true line c.put_too_long.ensures.upper_bound;
+      value = long_listed _ _ front.enough front.same _ c.if-register-gt-LONGEST.true line.wrote.wrote;
+      out_after = long_into _ _ front.enough front.same _ c.if-register-gt-LONGEST.true (lent line.wrote (search rules)) line.upper_bound;
       within = search rules;
     }
 

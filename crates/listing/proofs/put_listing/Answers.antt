@@ -11,4 +11,4 @@ put_accepted-requires c = search (accepted_is, rules)
 pub returns-in-Err-clause-wrote : goal.returns-in-Err-clause-wrote
 returns-in-Err-clause-wrote c =
     let line = c.put_refused.ensures.wrote in
-    sent_back_line _ _ c.in-Err.field-0 _ c.outcome_of.ensures (search rules) c.number.ensures (lent line (search rules))
+    sent_back_line _ _ c.in-Err.field-0 _ c.outcome_of.ensures (search rules) c.from.ensures (lent line (search rules))
