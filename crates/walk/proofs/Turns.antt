@@ -23,6 +23,10 @@ use Rattle.walk.specs.Walk.{go_on, walk_from, write_on, text_from, end_of}
 
 -- ---- the walk
 
+-- what the lent buffer holds is what the writer's does at the end of the walk
+pub held_after : (written : List ℕ) {held after : List ℕ} → held ≡ written → written ≡ after → held ≡ after
+held_after written e q = e ∙ q
+
 module _ (cards : List (List ℕ)) (told : Answer → List ℕ) (most : ℕ) where
   -- what is left of the walk from a card, running values and a position on
   abbrev pub Left : ℕ → Running → ℕ → Result (Running × ℕ) (SentBack ℕ)

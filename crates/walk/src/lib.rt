@@ -5,7 +5,7 @@
 ghost use Rattle.std.specs.Prelude.{◌≡◌, ℕ, ◌+◌, ◌*◌, ◌≤◌, List, length};
 ghost use Rattle.std.specs.List.{concat};
 ghost use Rattle.std.proofs.lemmas.List.Edits.{sets};
-ghost use Rattle.buffer.specs.Wrote.{Wrote};
+ghost use Rattle.buffer.specs.Puts.{Room, Puts};
 ghost use Rattle.card.specs.declared.Answer.{Answer};
 ghost use Rattle.encode.specs.Bytes.{answer_bytes};
 ghost use Rattle.lines.specs.Lines.{card_line};
@@ -24,11 +24,10 @@ pub trait Writes {
 
     ghost most: { ℕ };
 
-    // The place behind what was written.
-    fn put(out: &mut [u8], at: usize, answer: Answer) -> usize
-        requires { at + most ≤ length out.old }
-        ensures wrote { Wrote out.old out.new at result (text answer) }
-        ensures upper_bound { result ≤ at + most };
+    fn put(out: &mut Writer, answer: Answer)
+        requires { Room out.old most }
+        ensures wrote { Puts out.old out.new (text answer) }
+        ensures upper_bound { out.new.at ≤ out.old.at + most };
 }
 
 // Nothing is written.
@@ -39,9 +38,7 @@ impl Writes for Nothing {
 
     ghost most = { 0 };
 
-    fn put(_out: &mut [u8], at: usize, _answer: Answer) -> usize {
-        at
-    }
+    fn put(_out: &mut Writer, _answer: Answer) {}
 }
 
 // A card's sixteen bytes of the answer buffer.
@@ -52,10 +49,8 @@ impl Writes for Answers {
 
     ghost most = { 16 };
 
-    fn put(out: &mut [u8], at: usize, answer: Answer) -> usize {
-        let mut card = Writer { bytes: out, at };
-        encode::put_answer(&mut card, answer);
-        card.at
+    fn put(out: &mut Writer, answer: Answer) {
+        encode::put_answer(out, answer);
     }
 }
 
@@ -67,10 +62,8 @@ impl Writes for Lines {
 
     ghost most = { 128 };
 
-    fn put(out: &mut [u8], at: usize, answer: Answer) -> usize {
-        let mut line = Writer { bytes: out, at };
-        lines::put_card_line(&mut line, answer);
-        line.at
+    fn put(out: &mut Writer, answer: Answer) {
+        lines::put_card_line(out, answer);
     }
 }
 
@@ -87,18 +80,18 @@ pub fn along<W: Writes>(
     ensures within { Within (W.most * length cards.now) result }
 {
     let mut running = from;
-    let mut at = 0usize;
+    let mut written = Writer { bytes: out, at: 0 };
     for card in cards {
         match running::step(running, card) {
             Ok((next, answer)) => {
-                at = W::put(out, at, answer);
+                W::put(&mut written, answer);
                 running = next;
             }
             // not by `?`: in a generic function the check does not see that it hands the error on as it is
             Err(sent) => return Err(sent),
         }
     }
-    Ok((running, at))
+    Ok((running, written.at))
 }
 
 // The walk through all cards of a register.

@@ -12,6 +12,6 @@ abbrev pub invariant-loop-card : goal.invariant-loop-card
 invariant-loop-card g l =
     let told = g.W.Writes.text in
     let most = g.W.Writes.most in
-    (l.running.place ≡ l.initial.running.place + l.card-index) × (l.at ≤ most * l.card-index) × (length l.out ≡ length l.initial.out)
-    × (Left l.cards told most l.card-index l.running l.at ≡ Left l.cards told most 0 l.initial.running 0)
-    × (sets l.out l.at (Unwritten l.cards told most l.card-index l.running) ≡ sets l.initial.out 0 (Unwritten l.cards told most 0 l.initial.running))
+    (l.written.bytes.ghost_name ≡ l.initial.written.bytes.ghost_name) × (l.running.place ≡ l.initial.running.place + l.card-index) × (l.written.at ≤ most * l.card-index) × (length l.written.bytes.now ≡ length l.initial.written.bytes.now)
+    × (Left l.cards told most l.card-index l.running l.written.at ≡ Left l.cards told most 0 l.initial.running 0)
+    × (sets l.written.bytes.now l.written.at (Unwritten l.cards told most l.card-index l.running) ≡ sets l.initial.written.bytes.now 0 (Unwritten l.cards told most 0 l.initial.running))
