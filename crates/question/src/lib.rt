@@ -16,6 +16,7 @@ pub struct Question {
 }
 
 // The question of a line, without its line feed.
+#[tactic(auto, unfolding(crate::specs::Question::asked_in))]
 fn asked_in(line: &[u8]) -> Option<Question>
     ensures { result ≡ asked_in line.now }
 {
@@ -30,6 +31,7 @@ fn asked_in(line: &[u8]) -> Option<Question>
 }
 
 // The question of a text, which is one line; a line feed may end it. None where it is not well formed.
+#[tactic(auto, using(crate::proofs::Ends::two_lines, crate::proofs::Ends::one_line_lem))]
 pub fn question_of(text: &[u8]) -> Option<Question>
     ensures { result ≡ question_in text.now }
 {

@@ -10,6 +10,7 @@ use read_number::{Reads, Temperature, TwoBytes};
 
 // The number of the first field of a text, and what stands behind its comma; or none where it is not well formed. A comma has to end it,
 // since a number is never the last field. The number is at most what its form may hold.
+#[tactic(auto, unfolding(comma::specs::Stages::taken_in), using(pieces::proofs::Laws::before_take, numerals::proofs::Laws::within))]
 pub fn take_field<R: Reads>(text: &[u8]) -> Option<(u32, &[u8])>
     ensures some { IfSome result (λ taken. taken_in R.form text.now ≡ Some (taken.0, taken.1.now)) }
     ensures none { IfNone result (taken_in R.form text.now ≡ None) }

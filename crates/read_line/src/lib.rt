@@ -13,6 +13,7 @@ use read_number::{Cas, FourBytes, OneByte, TwoBytes};
 const LONGEST: usize = 200;
 
 // Kind, state, ground and containment, and what is left of the line behind them.
+#[tactic(auto, unfolding(comma::specs::Line::codes_in), using(comma::proofs::StageLaws::taken_next))]
 fn codes_of(line: &[u8]) -> Option<(Codes, &[u8])>
     ensures some { IfSome result (λ told. CodesTold line.now told.0 told.1.now) }
     ensures none { IfNone result (codes_in (fields_in line.now) ≡ None) }
@@ -31,6 +32,7 @@ fn codes_of(line: &[u8]) -> Option<(Codes, &[u8])>
 }
 
 // CAS number, pounds and area, from what is left of a line, and what is left behind them.
+#[tactic(auto, unfolding(comma::specs::Line::amounts_in), using(comma::proofs::StageLaws::taken_next))]
 fn amounts_of(text: &[u8]) -> Option<(Amounts, &[u8])>
     ensures some { IfSome result (λ told. AmountsTold text.now told.0 told.1.now) }
     ensures none { IfNone result (NoAmounts text.now) }
@@ -42,6 +44,7 @@ fn amounts_of(text: &[u8]) -> Option<(Amounts, &[u8])>
 }
 
 // Wall, temperature or concentration, and card number, and the remark, which is the last field and is dropped.
+#[tactic(auto, unfolding(comma::specs::Line::lasts_in), using(comma::proofs::StageLaws::taken_next, comma::proofs::StageLaws::remark_is, comma::proofs::StageLaws::remark_not))]
 fn lasts_of(text: &[u8], codes: Codes, amounts: Amounts) -> Option<Fields>
     ensures { result ≡ lasts_in codes amounts (fields_in text.now) }
 {
@@ -66,6 +69,7 @@ fn lasts_of(text: &[u8], codes: Codes, amounts: Amounts) -> Option<Fields>
 }
 
 // The card of a line, without its line feed; or none, since the line is not eleven well-formed fields or too long.
+#[tactic(auto, unfolding(comma::specs::Line::line_of))]
 pub fn line_of(line: &[u8]) -> Option<Fields>
     ensures { result ≡ line_of line.now }
 {

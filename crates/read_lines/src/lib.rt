@@ -30,6 +30,7 @@ fn put_cards(text: &[u8], count: usize, out: &mut [u8])
 
 // Reads comma lines into a register. A text with a line that is not well formed, too many lines or too short a buffer leaves
 // every byte as it was, and so do the bytes behind the register always.
+#[tactic(auto, unfolding(comma::specs::Text::reading_of, comma::specs::Text::read_into, comma::specs::Text::bad_room), using(crate::proofs::Ends::register_written))]
 pub fn read(text: &[u8], out: &mut [u8]) -> Result<usize, SentBack<usize>>
     ensures value { result ≡ reading_of text.now (length out.old) }
     ensures out_after { out.new ≡ read_into text.now out.old }

@@ -5,6 +5,7 @@ ghost use Rattle.std.specs.Prelude.{◌≡◌};
 ghost use Rattle.numerals.specs.Numerals.{Form, Decimal, Cas, Temperature, cas_in, value_of, value_in};
 
 // A CAS number, its hyphens fifth and second from the end: its three groups, one read on from the other.
+#[tactic(auto, unfolding(numerals::specs::Numerals::cas_in, numerals::specs::Numerals::hyphened), using(crate::proofs::Ends::cas_groups))]
 fn cas_in(text: &[u8]) -> Option<u32>
     ensures { result ≡ cas_in text.now }
 {

@@ -1,8 +1,0 @@
--- `rings_c::rings_write_lines` meets its contract: the writer's answer in two words, and its buffer.
--- Assumes nothing.
-use Rattle.rings_c.proofs.Ends.{call_code, call_at}
-use borrow.Author.Rules.{rules}
-use Rattle.rings_c.proofs.rings_write_lines.Goals as goal
-
-pub returns : goal.returns
-returns c = search (call_code, call_at, rules)
