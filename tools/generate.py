@@ -695,13 +695,6 @@ DEFAULT_GOAL = "returns-in_default"
 DEFAULT_KNOWN = "c.in_default.in_default-own.rest"
 
 
-def arms_proof(crate, function, imports, unfolding, meaning, keys, last):
-    """The answers of an `rt_match`: an arm's value is computed from the printed lists at the arm's own key."""
-    arms = [(f"returns-in-{key}", f"arm {meaning} _ {key} c.in-{key}.is refl") for key in keys]
-    return answers_proof(crate, "tables", function, "each arm is what is\n-- printed at its key. Assumes nothing.", imports,
-                         unfolding, arms + [(DEFAULT_GOAL, last)])
-
-
 def rt_cell(cell):
     return f"Cell::{CELL_VARIANTS[cell]}" if cell in CELL_VARIANTS else f"Cell::Factor({cell})"
 
@@ -792,7 +785,7 @@ def neutral_constants(tables):
         marks = [mark for _, _, mark in table["closed"]] + [table["above"][1]]
         constants.append(rt_constant(
             f"Table {number}: the upper bounds of the closed ranges, and the entries in use, the last for the open range.",
-            f"TABLE_{number}", "Ranges", "Ranges",
+            f"TABLE_{number}", f"Ranges<{len(table['closed'])}, {len(marks)}>", "Ranges",
             {"bounds": (32, [upper for _, upper, _ in table["closed"]]), "entries": (16, column_in_use(marks))}))
     return rt_file(sources_of(tables), constants, uses=["use rules::Ranges;"])
 

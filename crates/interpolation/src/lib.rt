@@ -5,6 +5,8 @@
 ghost use Rattle.std.specs.Prelude.{◌≡◌, ◌<◌, length, slice_index};
 ghost use Rattle.interpolation.specs.Interpolation.{float_of, row_of, line_between, entry_read, between_rows, above_last, likely_at};
 
+use rules::MILE_LIMIT;
+
 // A row of a table: its rate in thousandths of a pound per minute and its distance in hundredths of a mile.
 #[derive(Clone, Copy)]
 pub struct Row {
@@ -19,9 +21,6 @@ pub enum Likely {
     Interpolated(f64),
     Limit(f64),
 }
-
-// 25 miles, in hundredths.
-const MILE_LIMIT: u16 = 2500;
 
 // A rate, and a distance, as floats, which hold them exactly.
 fn rate_float(rate: u64) -> f64

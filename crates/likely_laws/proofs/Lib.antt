@@ -1,1 +1,2 @@
 pub mod Exhibits
+pub mod Stages

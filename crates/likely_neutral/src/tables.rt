@@ -3,7 +3,7 @@
 use rules::Ranges;
 
 // Table 14: the upper bounds of the closed ranges, and the entries in use, the last for the open range.
-pub const TABLE_14: Ranges = Ranges {
+pub const TABLE_14: Ranges<48, 49> = Ranges {
     bounds: [
         640, 5100, 13000, 23000, 41000, 63000, 88000, 120000, 160000, 190000, 220000, 260000,
         300000, 360000, 420000, 470000, 540000, 600000, 700000, 780000, 870000, 970000, 1100000,
@@ -19,7 +19,7 @@ pub const TABLE_14: Ranges = Ranges {
 };
 
 // Table 15: the upper bounds of the closed ranges, and the entries in use, the last for the open range.
-pub const TABLE_15: Ranges = Ranges {
+pub const TABLE_15: Ranges<48, 49> = Ranges {
     bounds: [
         790, 6300, 16000, 28000, 52000, 79000, 110000, 140000, 190000, 230000, 270000, 320000,
         360000, 420000, 470000, 520000, 570000, 610000, 680000, 730000, 790000, 840000, 910000,
@@ -35,7 +35,7 @@ pub const TABLE_15: Ranges = Ranges {
 };
 
 // Table 16: the upper bounds of the closed ranges, and the entries in use, the last for the open range.
-pub const TABLE_16: Ranges = Ranges {
+pub const TABLE_16: Ranges<48, 49> = Ranges {
     bounds: [
         1600, 14000, 36000, 69000, 130000, 220000, 310000, 420000, 590000, 730000, 880000, 1000000,
         1200000, 1500000, 1700000, 2000000, 2300000, 2600000, 3100000, 3400000, 3900000, 4300000,
@@ -51,7 +51,7 @@ pub const TABLE_16: Ranges = Ranges {
 };
 
 // Table 17: the upper bounds of the closed ranges, and the entries in use, the last for the open range.
-pub const TABLE_17: Ranges = Ranges {
+pub const TABLE_17: Ranges<48, 49> = Ranges {
     bounds: [
         2000, 17000, 45000, 86000, 170000, 270000, 390000, 530000, 730000, 900000, 1100000,
         1300000, 1500000, 1700000, 2000000, 2200000, 2400000, 2700000, 3000000, 3200000, 3500000,

@@ -3,7 +3,7 @@
 use rules::Ranges;
 
 // Table 1: the upper bounds of the closed ranges, and the entries in use, the last for the open range.
-pub const TABLE_1: Ranges = Ranges {
+pub const TABLE_1: Ranges<48, 49> = Ranges {
     bounds: [
         44, 370, 970, 1800, 3400, 5300, 7600, 10000, 15000, 19000, 24000, 29000, 35000, 44000,
         51000, 59000, 68000, 77000, 90000, 100000, 110000, 120000, 140000, 150000, 160000, 180000,
@@ -19,7 +19,7 @@ pub const TABLE_1: Ranges = Ranges {
 };
 
 // Table 2: the upper bounds of the closed ranges, and the entries in use, the last for the open range.
-pub const TABLE_2: Ranges = Ranges {
+pub const TABLE_2: Ranges<48, 49> = Ranges {
     bounds: [
         55, 460, 1200, 2200, 4200, 6500, 9100, 12000, 16000, 19000, 23000, 26000, 29000, 34000,
         37000, 41000, 44000, 48000, 52000, 56000, 59000, 62000, 67000, 70000, 74000, 77000, 81000,
@@ -34,7 +34,7 @@ pub const TABLE_2: Ranges = Ranges {
 };
 
 // Table 3: the upper bounds of the closed ranges, and the entries in use, the last for the open range.
-pub const TABLE_3: Ranges = Ranges {
+pub const TABLE_3: Ranges<48, 49> = Ranges {
     bounds: [
         210, 1700, 4200, 7600, 14000, 21000, 31000, 42000, 61000, 78000, 97000, 120000, 140000,
         180000, 220000, 250000, 290000, 330000, 390000, 440000, 490000, 550000, 630000, 690000,
@@ -50,7 +50,7 @@ pub const TABLE_3: Ranges = Ranges {
 };
 
 // Table 4: the upper bounds of the closed ranges, and the entries in use, the last for the open range.
-pub const TABLE_4: Ranges = Ranges {
+pub const TABLE_4: Ranges<48, 49> = Ranges {
     bounds: [
         260, 2100, 5300, 9400, 17000, 26000, 37000, 48000, 64000, 77000, 91000, 110000, 120000,
         140000, 160000, 170000, 190000, 210000, 230000, 240000, 260000, 280000, 300000, 320000,

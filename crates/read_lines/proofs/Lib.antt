@@ -1,1 +1,2 @@
 mod Ends
+pub mod ByPlace

@@ -20,12 +20,12 @@ use Rattle.rules.proofs.Laws.{row_by_cuts, holding_by_bounds, never_past}
 use Rattle.rules.specs.Carried.{running, in_use_at}
 
 -- Tables 1 to 4: the upper bounds, and the entries in use with the open range's last. `known` is the constant that is lent.
-pub range_means : (table : List Range) {known ranges : Ranges} → ranges ≡ known → known.bounds ≡ uppers table
+pub range_means : {n m : ℕ} (table : List Range) {known ranges : Ranges n m} → ranges ≡ known → known.bounds ≡ uppers table
     → known.entries ≡ running 0 (map (λ range. distance (mark_of range)) table) → length table ≡ suc (length known.bounds)
     → {found : Miles} (rate endpoint : ℕ) → found.0 ≡ get_or ranges.entries (first_at_least (suc (1000 * rate)) (scaled endpoint ranges.bounds)) 0
     → Some found ≡ by_range table rate endpoint
 unfolding by_range scaled answered
-range_means table {known} {ranges} k b e l {found} rate endpoint f =
+range_means {n} {m} table {known} {ranges} k b e l {found} rate endpoint f =
     let marks : List ℕ = map (λ range. distance (mark_of range)) table in
     let place : ℕ = first_at_least (suc (1000 * rate)) (scaled endpoint known.bounds) in
     let held : holding rate endpoint table ≡ place =

@@ -9,7 +9,7 @@ ghost use Rattle.rules.specs.Cuts.{scaled};
 use units::Miles;
 
 // 25 miles, in hundredths.
-const MILE_LIMIT: u16 = 2500;
+pub const MILE_LIMIT: u16 = 2500;
 
 // The row and the column of a dense table that settle a reading.
 #[derive(Clone, Copy)]
@@ -61,14 +61,15 @@ fn reaching(bound: u32, endpoint: u32) -> u64
 
 // A table of ranges of rate / endpoint: the upper bounds of the closed ones in tenths, and the entries in use in hundredths of a
 // mile, the open range's last.
-pub struct Ranges {
-    pub bounds: [u32; 48],
-    pub entries: [u16; 49],
+pub struct Ranges<const BOUNDS: usize, const ENTRIES: usize> {
+    pub bounds: [u32; BOUNDS],
+    pub entries: [u16; ENTRIES],
 }
 
-impl Ranges {
+impl<const BOUNDS: usize, const ENTRIES: usize> Ranges<BOUNDS, ENTRIES> {
     // The entry of the range that holds rate / endpoint. The last range is open, so there is one for every ratio.
     pub fn read(&self, rate: u64, endpoint: u32) -> Miles
+        requires { ENTRIES ≡ BOUNDS + 1 }
         ensures { result.0 ≡ get_or self.now.entries (first_at_least (suc (1000 * rate)) (scaled endpoint self.now.bounds)) 0 }
     {
         let range = self

@@ -5,7 +5,7 @@ use Rattle.rules.proofs.Scaled.{scaled_place}
 use Rattle.rules.proofs.Ranges.read.Goals as goal
 
 pub returns : goal.returns
-returns c =
+returns g c =
     let bounds : List ℕ = c.args.self.now.bounds in
     let r : ℕ = c.unwrap_or.result in
     let within : r ≤ length bounds = search rules in
