@@ -39,11 +39,9 @@ pub fn put_lines(cards: &[[u8; 24]], line: &mut [u8], out: &mut [u8])
     requires { (length cards.now ≤ 2000) × (256 ≤ length line.old) × (length (lines_to (length cards.now) (concat cards.now)) ≤ length out.old) }
     ensures { out.new ≡ sets out.old 0 (lines_to (length cards.now) (concat cards.now)) }
 {
-    let mut at = 0usize;
+    let mut written = Writer { bytes: out, at: 0 };
     for card in cards {
         let size = line_of(card, line);
-        let mut behind = Writer { bytes: out, at };
-        buffer::put_text(&mut behind, &line[..size]);
-        at = behind.at;
+        buffer::put_text(&mut written, &line[..size]);
     }
 }

@@ -35,7 +35,7 @@ loop-place-preserved c =
       tt,
       rw next
           (lay_turn c.args.count place left c.loop-place.invariant.3 c.in-Some.line.now others c.in-Some.ensures.steps.1 c.line_of.result c.line_of.ensures _ _ fields good
-              c.put_card.ensures.wrote (search rules) (rw here) c.loop-place.invariant.2),
+          c.put_card.ensures.wrote (search rules) (rw here) c.loop-place.invariant.2),
       rw next counted,
       end,
       search rules,

@@ -15,6 +15,6 @@ loop-card-preserved c =
       search rules,
       search rules,
       search rules,
-      put_turn c.args.cards.now (search rules) c.loop-card.card-index (search rules) _ _ _ line.wrote line.upper_bound (search rules) _ _ _ c.loop-card.invariant.3 _ _
-          (lent c.put_text.ensures (search rules)),
+      search rules,
+      put_turn c.args.cards.now (search rules) c.loop-card.card-index (search rules) _ _ _ line.wrote line.upper_bound (search rules) _ _ _ c.loop-card.invariant.4 _ _ c.put_text.ensures.wrote,
     )
