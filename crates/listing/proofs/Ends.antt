@@ -2,7 +2,7 @@
 -- Assumes nothing.
 use Rattle.std.specs.Prelude.{Some, None, Result, Ok, Err}
 use Rattle.refusals.specs.declared.SentBack.{SentBack}
-use Prim.Native.Nat.{ℕ, ◌*◌, ◌≤◌, ◌<◌}
+use Prim.Native.Nat.{ℕ, ◌+◌, ◌*◌, ◌≤◌, ◌<◌}
 use native.Mathlib.Omega.{arith}
 use mathlib.Core.Path.{◌≡◌, ◌∙◌, ap, sym, subst}
 use mathlib.Core.List.{List, ◌++◌, append_assoc}
@@ -54,6 +54,9 @@ lines_room n out few h = omega arith
 
 pub behind_cards : (x : Result (Running × ℕ) (SentBack ℕ)) (t : Running) (size n : ℕ) → x ≡ Ok (t, size) → Reached (128 * n) x → n ≤ 2_000 → size ≤ 128 * 2_000
 behind_cards x t size n q r few = let z : size ≤ 128 * n = subst (Reached (128 * n)) q r in omega arith
+
+pub leaders_within : (x : Result (Running × ℕ) (SentBack ℕ)) (t : Running) (size n end : ℕ) → x ≡ Ok (t, size) → Reached (128 * n) x → n ≤ 2_000 → end ≤ size + 128 → end ≤ listing_room
+leaders_within x t size n end q r few e = omega (arith, behind_cards x t size n q r few, e)
 
 pub accepted_is : (bytes : List ℕ) (x : Result Leaders (SentBack ℕ)) {l : Leaders} → x ≡ outcome_of bytes enough → x ≡ Ok l → IsAccepted (outcome_of bytes enough)
 accepted_is bytes x e q = subst IsAccepted (sym q ∙ e) tt

@@ -2,8 +2,9 @@
 // there is none.
 #![tactic(auto)]
 
-ghost use Rattle.std.specs.Prelude.{◌≡◌, ◌*◌, ◌≤◌, length};
+ghost use Rattle.std.specs.Prelude.{◌≡◌, ◌+◌, ◌≤◌, length};
 ghost use Rattle.buffer.specs.Wrote.{Wrote};
+ghost use Rattle.buffer.specs.Puts.{Room, Puts};
 ghost use Rattle.header.specs.Header.{enough, header_of};
 ghost use Rattle.cards.specs.Register.{outcome_of};
 ghost use Rattle.listing.specs.Listing.{leader_lines, listed_after, listing_room, listed_of, listed_into, Within};
@@ -21,15 +22,13 @@ const LONGEST: usize = 48_007;
 const ROOM: usize = 256_256;
 
 // The lines of both classes, behind the cards.
-fn put_leaders(out: &mut [u8; ROOM], at: usize, leaders: Leaders) -> usize
-    requires { at ≤ 128 * 2000 }
-    ensures wrote { Wrote out.old out.new at result (leader_lines leaders) }
-    ensures upper_bound { result ≤ listing_room }
+fn put_leaders(out: &mut Writer, leaders: Leaders)
+    requires { Room out.old 128 }
+    ensures wrote { Puts out.old out.new (leader_lines leaders) }
+    ensures upper_bound { out.new.at ≤ out.old.at + 128 }
 {
-    let mut lines = Writer { bytes: out, at };
-    closing::put_leader(&mut lines, b'T', leaders.toxic);
-    closing::put_leader(&mut lines, b'F', leaders.flammable);
-    lines.at
+    closing::put_leader(out, b'T', leaders.toxic);
+    closing::put_leader(out, b'F', leaders.flammable);
 }
 
 // The listing of a register that is accepted: one walk writes a line for each card and keeps the leaders. That it stops at no card
@@ -43,7 +42,12 @@ fn put_accepted(register: &[u8], out: &mut [u8; ROOM]) -> usize
     let Ok((running, behind)) = walk::through::<Lines>(cards, out) else {
         return 0;
     };
-    put_leaders(out, behind, running.leaders)
+    let mut lines = Writer {
+        bytes: out,
+        at: behind,
+    };
+    put_leaders(&mut lines, running.leaders);
+    lines.at
 }
 
 // The listing of a register that is not too long.
