@@ -1,5 +1,5 @@
 -- A reading of the rows of Tables 5 to 8 is the reading of the printed table: over any cut points that are what is computed
--- from it. The equations are closed by computation where the row is read.
+-- from it. The equations are closed by computation where the entry is read.
 -- Assumes nothing.
 use Prim.Native.Nat.{ℕ, zero, suc, ◌-◌, ◌≤◌, ◌<◌}
 use native.Mathlib.Nat.{le_of_suc-le-suc, not-suc-le-zero}

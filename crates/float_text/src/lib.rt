@@ -2,7 +2,7 @@
 // caller sees to the room; every byte outside what is written stays as it was.
 #![tactic(auto)]
 
-ghost use Rattle.std.specs.Prelude.{◌≡◌, ◌+◌, ◌<◌, ◌≤◌, not, T, length, is_nan};
+ghost use Rattle.std.specs.Prelude.{◌≡◌, ◌+◌, ◌<◌, ◌≤◌, not, T, is_nan};
 ghost use Rattle.std.specs.Float.Ieee.{le};
 ghost use Rattle.buffer.specs.Puts.{Room, Puts};
 ghost use Rattle.decimal.specs.Decimal.{fixed};

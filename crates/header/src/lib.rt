@@ -3,7 +3,7 @@
 
 ghost use Rattle.std.specs.Prelude.{◌≡◌, ◌+◌, ◌*◌, length, drop};
 ghost use Rattle.std.specs.List.{concat};
-ghost use Rattle.header.specs.Header.{header_size, card_size, count_of, bad_length, bad_version, bad_count, bad_buffer, header_of, HeaderFits};
+ghost use Rattle.header.specs.Header.{header_size, card_size, count_of, bad_length, bad_version, bad_count, header_of, HeaderFits};
 
 use refusals::Refusal;
 

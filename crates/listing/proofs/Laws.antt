@@ -85,7 +85,7 @@ module _ (bytes : List ℕ) where
       go (Ok n) p = refused_text (cards_of n bytes) p
       go (Err s) p = cc
 
--- ---- what a caller shows who prints the text: it is a part of the buffer, from its start
+-- ---- what a caller has who prints the text: it is a part of the buffer, from its start
 
 pub text_part : (room n : ℕ) {x : Option ℕ} → x ≡ Some n → Within room x → n ≤ room
 text_part room n e w = subst (Within room) e w

@@ -43,10 +43,9 @@ pub fn pool_area(quantity: Pounds, df: u8, containment: Containment) -> SquareFe
     match containment {
         Containment::Open => SquareFeet(full_area(quantity, df)),
         Containment::Dike(dike) => SquareFeet(diked_area(quantity, df, dike)),
-        Containment::Building(building) => {
-            SquareFeet(building.floor.0.min(full_area(quantity, df)))
+        Containment::Building(shed) | Containment::ShedWithDoors(shed) => {
+            SquareFeet(shed.floor.0.min(full_area(quantity, df)))
         }
-        Containment::ShedWithDoors(shed) => SquareFeet(shed.floor.0.min(full_area(quantity, df))),
     }
 }
 

@@ -1,7 +1,7 @@
 // One field of a comma line, the first of what is left of it: in a form that is given, or, the ninth, in the form that it has.
 #![tactic(auto)]
 
-ghost use Rattle.std.specs.Prelude.{◌≡◌, ◌≤◌, length, IfNone, IfSome, None, Some};
+ghost use Rattle.std.specs.Prelude.{◌≡◌, ◌≤◌, IfNone, IfSome, None, Some};
 ghost use Rattle.numerals.specs.Numerals.{most_of};
 ghost use Rattle.comma.specs.Line.{tenths_form};
 ghost use Rattle.comma.specs.Stages.{taken_in};

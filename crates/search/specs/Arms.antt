@@ -32,7 +32,7 @@ missed_after A n (k ∷ keys) m =
 pub missed : (n : ℕ) (keys : List ℕ) → Missed n keys → among n keys ≡ false
 missed n keys m = missed_after (Unit {0}) n keys m
 
--- so many numbers from one on: the keys of a table by rows
+-- so many numbers from one on: the keys of a table whose rows are numbered
 abbrev pub numbers : ℕ → ℕ → List ℕ
 numbers from zero = []
 numbers from (suc count) = from ∷ numbers (suc from) count
@@ -46,6 +46,6 @@ beyond_from n from (suc count) e h = go (eqb n from) refl (beyond_from n (suc fr
     go true p ih q = let z : ◌≡◌ {A = ℕ} 0 1 = cc in absurd (omega arith)
     go false p ih q = let apart : n ≡ from → ⊥ = eqb-false n from p in omega (arith, ih q (omega arith))
 
--- the last arm of a table by rows
+-- the last arm of such a table
 pub beyond : (n count : ℕ) → Missed n (numbers 0 count) → count ≤ n
 beyond n count m = omega (arith, beyond_from n 0 count (missed n (numbers 0 count) m) zero-le)

@@ -1,6 +1,6 @@
 // The four units of the guidance, as tuple structs, so that none of them can stand for another. Only the rate and table
-// functions (the crates release, dispersion and blast) make and open them; everybody else passes them on whole, or compares two
-// of one kind.
+// functions make and open them (docs/DECISIONS.md names the crates); everybody else passes them on whole, or compares two of
+// one kind.
 #![tactic(auto)]
 
 // Whole pounds of a substance.

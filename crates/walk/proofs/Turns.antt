@@ -36,7 +36,7 @@ module _ (cards : List (List ℕ)) (told : Answer → List ℕ) (most : ℕ) whe
   abbrev pub Unwritten : ℕ → Running → List ℕ
   Unwritten i s = text_from told (length cards - i) s (concat (drop i cards))
 
-  -- 16 or 128 bytes a card: there is room for the next
+  -- so many bytes a card at most: there is room for the next
   pub room : (at i : ℕ) (out out₀ : List ℕ) → i < length cards → at ≤ most * i → length out ≡ length out₀ → most * length cards ≤ length out₀ → at + most ≤ length out
   room at i out out₀ h k l m = omega (arith, mul-suc (most) i, mul-le-mul_left (most) h)
 
