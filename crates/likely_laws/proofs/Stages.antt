@@ -15,7 +15,8 @@ use Rattle.meaning.specs.Reading.{substance_of, toxic_meaning}
 use Rattle.likely_tables.specs.LikelyTables.{likely_reading}
 use Rattle.likely_scenario.specs.declared.LikelyScenario.{LikelyScenario}
 use Rattle.likely_scenario.specs.LikelyScenario.{likely_table, told, planned_likely, meant_likely, shaped_likely, unless_refused}
-use Rattle.likely_laws.specs.Numbers.{CarriesIn, AnswerCarries, reading_number}
+use Rattle.line_laws.specs.Numbers.{CarriesIn}
+use Rattle.likely_laws.specs.Numbers.{AnswerCarries, reading_number}
 
 pub told_number : (found : Option Likely) (table : ℕ) → CarriesIn found → AnswerCarries (told found table)
 told_number (Some d) table h = h
