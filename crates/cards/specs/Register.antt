@@ -1,16 +1,19 @@
 -- What a register is: its cards in turn, what the call answers, and what it leaves in the answer buffer. The contracts of the
 -- entry points cite this file; how the code walks over the cards stands in `walk/specs/Walk.antt`.
 -- Assumes nothing.
-use Rattle.std.specs.Prelude.{ℕ, zero, suc, List, [], ◌∷◌, ◌++◌, length, take, drop, Result, Ok, Err}
+use Rattle.std.specs.Prelude.{ℕ, suc, Bool, true, false, List, [], ◌∷◌, ◌++◌, length, drop, Option, Result, Ok, Err}
 use Rattle.farthest.specs.declared.Leaders.{Leaders}
 use Rattle.refusals.specs.declared.SentBack.{SentBack}
 use Rattle.refusals.specs.Numbers.{refused_at}
 use Rattle.refusals.specs.declared.Refusal.{Refusal}
+use Rattle.refusals.specs.declared.Refusal.TheVariants as refusal
 use Rattle.card.specs.declared.Answer.{Answer}
 use Rattle.card.specs.Answers.{answer_of}
 use Rattle.farthest.specs.Farthest.{leaders_of}
 use Rattle.encode.specs.Bytes.{answer_bytes}
-use Rattle.header.specs.Header.{header_size, card_size, header_of}
+use Rattle.header.specs.declared.Stored.{Stored}
+use Rattle.header.specs.Header.{stored_in, cards_in, header_of}
+use Rattle.cards.specs.Distances.{wrong_for}
 
 -- what the cards of a register come to: every card's answer, or the first refusal and the place of its card
 pub data Cards : Type 0 where
@@ -28,14 +31,22 @@ then (Ok a) place further = joined a (further a.number)
 then (Err r) place further = sent_back r place
 
 -- "then 5 to 11 on each card in turn": the cards that are left, from the place reached, after the last card's number
-unfoldable pub cards_from : ℕ → ℕ → ℕ → List ℕ → Cards
-cards_from zero place last bytes = answers []
-cards_from (suc left) place last bytes =
-    then (answer_of (take card_size bytes) last) place (λ n. cards_from left (suc place) n (drop card_size bytes))
+unfoldable pub cards_from : ℕ → ℕ → List (List ℕ) → Cards
+cards_from place last [] = answers []
+cards_from place last (card ∷ rest) = then (answer_of card last) place (λ n. cards_from (suc place) n rest)
 
--- all cards of a register
-unfoldable pub cards_of : ℕ → List ℕ → Cards
-cards_of count bytes = cards_from count 0 0 (drop header_size bytes)
+-- document 02, A9: "A wrong stored distance is number 3, once every card has passed", at place 0
+abbrev pub unless_wrong : Bool → List Answer → Cards
+unless_wrong true xs = sent_back refusal.Count 0
+unless_wrong false xs = answers xs
+
+abbrev pub settled : Option Stored → Cards → Cards
+settled s (answers xs) = unless_wrong (wrong_for s (leaders_of xs)) xs
+settled s (sent_back r place) = sent_back r place
+
+-- all cards of a register, and the distances that it stores
+unfoldable pub cards_of : List ℕ → Cards
+cards_of bytes = settled (stored_in bytes) (cards_from 0 0 (cards_in bytes))
 
 -- "A refusal carries its number and the card's place, counted from 0"; "An accepted call's result gives both classes'
 -- farthest"
@@ -45,7 +56,7 @@ result_of (sent_back r place) = Err (refused_at r place)
 
 -- "(0 for 1 to 4, and wherever no card is meant)"
 abbrev pub after_header : Result ℕ Refusal → List ℕ → Result Leaders (SentBack ℕ)
-after_header (Ok count) bytes = result_of (cards_of count bytes)
+after_header (Ok count) bytes = result_of (cards_of bytes)
 after_header (Err r) bytes = Err (refused_at r 0)
 
 -- what the call answers for these bytes and an answer buffer of this length
@@ -63,7 +74,7 @@ filled_with (answers xs) out = bytes_of xs ++ drop (length (bytes_of xs)) out
 filled_with (sent_back r place) out = out
 
 abbrev pub filled_after : Result ℕ Refusal → List ℕ → List ℕ → List ℕ
-filled_after (Ok count) bytes out = filled_with (cards_of count bytes) out
+filled_after (Ok count) bytes out = filled_with (cards_of bytes) out
 filled_after (Err r) bytes out = out
 
 -- what the call leaves in the answer buffer

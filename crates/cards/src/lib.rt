@@ -1,36 +1,66 @@
-// A register's cards, walked in turn and answered into the lent buffer.
+// A register's cards, walked in turn and answered into the lent buffer, and the distances that its header stores.
 #![tactic(auto)]
 
 ghost use Rattle.std.specs.Prelude.{◌≡◌, ◌*◌, ◌≤◌, length};
-ghost use Rattle.std.specs.List.{concat};
-ghost use Rattle.cards.specs.Register.{cards_from, result_of, filled_with};
+ghost use Rattle.cards.specs.Distances.{distance_in, distances_of, wrong_for, held_to};
+ghost use Rattle.cards.specs.Register.{cards_from, settled, result_of, filled_with};
 
-use farthest::Leaders;
-use refusals::SentBack;
+use farthest::{Leader, Leaders};
+use header::Stored;
+use refusals::{Refusal, SentBack};
+use units::Miles;
 use walk::Answers;
 
-// The cards are walked once, into a buffer that nobody but the caller sees, and what it holds is copied where no card was refused: so
-// every card is checked before a byte of the lent buffer is written.
+// The distance of a farthest card, 0 for none.
+fn distance_in(leader: Option<Leader>) -> u16
+    ensures { result ≡ distance_in leader }
+{
+    match leader {
+        Some(
+            Leader {
+                distance: Miles(hundredths),
+                ..
+            },
+        ) => hundredths,
+        None => 0,
+    }
+}
+
+// The two distances that a header stores of a register with these leaders.
+pub fn distances_of(leaders: Leaders) -> Stored
+    ensures { result ≡ distances_of leaders }
+{
+    Stored {
+        toxic: distance_in(leaders.toxic),
+        flammable: distance_in(leaders.flammable),
+    }
+}
+
+// Both farthest of cards that have all passed, as a call's answer: a wrong distance in the header is found last.
+#[tactic(auto, unfolding(crate::specs::Distances::wrong_for, crate::specs::Distances::held_to))]
+pub fn held_to(stored: Option<Stored>, leaders: Leaders) -> Result<Leaders, SentBack<u32>>
+    ensures { result ≡ held_to stored leaders }
+{
+    match stored {
+        Some(distances) if distances != distances_of(leaders) => Err(Refusal::Count.into()),
+        _ => Ok(leaders),
+    }
+}
+
+// The cards are walked once, into a buffer that nobody but the caller sees, and what it holds is copied where no card was refused and
+// no wrong distance is stored: so everything is checked before a byte of the lent buffer is written.
 pub fn answer_through(
     cards: &[[u8; 24]],
+    stored: Option<Stored>,
     scratch: &mut [u8],
     answers: &mut [u8],
 ) -> Result<Leaders, SentBack<u32>>
     requires { (length cards.now ≤ 2000) × (16 * length cards.now ≤ length scratch.old) × (16 * length cards.now ≤ length answers.old) }
-    ensures value { result ≡ result_of (cards_from (length cards.now) 0 0 (concat cards.now)) }
-    ensures answers_after { answers.new ≡ filled_with (cards_from (length cards.now) 0 0 (concat cards.now)) answers.old }
+    ensures value { result ≡ result_of (settled stored (cards_from 0 0 cards.now)) }
+    ensures answers_after { answers.new ≡ filled_with (settled stored (cards_from 0 0 cards.now)) answers.old }
 {
     let (running, size) = walk::through::<Answers>(cards, scratch)?;
+    let leaders = held_to(stored, running.leaders)?;
     answers[..size].copy_from_slice(&scratch[..size]);
-    Ok(running.leaders)
-}
-
-// One card needs no such buffer: the walk refuses it before it writes a byte.
-pub fn answer_one(cards: &[[u8; 24]], answers: &mut [u8]) -> Result<Leaders, SentBack<u32>>
-    requires { (length cards.now ≤ 1) × (16 * length cards.now ≤ length answers.old) }
-    ensures value { result ≡ result_of (cards_from (length cards.now) 0 0 (concat cards.now)) }
-    ensures answers_after { answers.new ≡ filled_with (cards_from (length cards.now) 0 0 (concat cards.now)) answers.old }
-{
-    let walked = walk::through::<Answers>(cards, answers);
-    walk::outcome_of(walked)
+    Ok(leaders)
 }

@@ -3,42 +3,72 @@
 use Rattle.std.specs.Prelude.{ℕ, zero, suc, ◌+◌, ◌-◌, ◌*◌, ◌/◌, ◌<◌, ◌≤◌, ◌≡◌, refl, List, [], ◌∷◌, ◌++◌, length, take, drop, get_or}
 use Rattle.std.specs.List.{concat}
 use Rattle.std.specs.Simd.{first_chunks}
-use Rattle.std.proofs.Common.{arith, ◌∙◌, ap, sym, length-append, length-drop, take_all, drop-cons, take-append-drop, take_at, drop_at}
+use Rattle.std.proofs.Common.{arith, ◌∙◌, ap, ap₂, sym, length-append, length-drop, take_all, drop-cons, take-append-drop, drop-drop, take_at, drop_at}
 use Rattle.std.proofs.lemmas.List.Folds.{concat-append}
-use Rattle.buffer.specs.Numbers.{two_at}
+use native.Mathlib.Nat.{mul-suc}
+use native.Mathlib.Numerals.{unary_clauses}
+use Rattle.header.specs.declared.Layout.{Layout}
+use Rattle.header.specs.Header.{count_of, layout_in, size_of, cards_in, Whole}
 
 -- ---- from the bytes to the cards
 
-joined_chunks : (n : ℕ) (bytes : List ℕ) → length bytes ≡ 24 * n → concat (first_chunks 24 n bytes) ≡ bytes
-joined_chunks zero [] e = refl
-joined_chunks zero (b ∷ bytes) e = absurd (omega (arith, e))
-joined_chunks (suc n) bytes e =
-    let rest : length (drop 24 bytes) ≡ 24 * n = omega (arith, length-drop 24 bytes, e) in
-    ap (λ r. take 24 bytes ++ r) (joined_chunks n (drop 24 bytes) rest) ∙ take-append-drop 24 bytes
+-- so many cards of so many bytes each
+pub chunks_count : (size n : ℕ) (bytes : List ℕ) → length (first_chunks size n bytes) ≡ n
+chunks_count size zero bytes = refl
+chunks_count size (suc n) bytes = ap suc (chunks_count size n (drop size bytes))
 
-module _ (bytes : List ℕ) (fits : length bytes ≡ 7 + 24 * two_at bytes 5) where
+pub chunks_joined : (size n : ℕ) (bytes : List ℕ) → length bytes ≡ size * n → concat (first_chunks size n bytes) ≡ bytes
+chunks_joined size zero [] e = refl
+chunks_joined size zero (b ∷ bytes) e = absurd (omega (arith, e))
+chunks_joined size (suc n) bytes e =
+    let rest : length (drop size bytes) ≡ size * n = omega (arith, length-drop size bytes, mul-suc size n, e) in
+    ap (λ r. take size bytes ++ r) (chunks_joined size n (drop size bytes) rest) ∙ take-append-drop size bytes
+
+pub chunk_at : (size n : ℕ) (bytes : List ℕ) (i : ℕ) → i < n → get_or (first_chunks size n bytes) i [] ≡ take size (drop (size * i) bytes)
+chunk_at size zero bytes i h = absurd (omega (arith, h))
+chunk_at size (suc n) bytes zero h = simp unary_clauses refl
+chunk_at size (suc n) bytes (suc i) h =
+    chunk_at size n (drop size bytes) i (omega (arith, h))
+    ∙ ap (take size) (drop-drop (size * i) size bytes ∙ ap (λ k. drop k bytes) (let z : size + size * i ≡ size * suc i = omega (arith, mul-suc size i) in z))
+
+module _ (bytes : List ℕ) (l : Layout) (e : l ≡ layout_in bytes) (w : Whole bytes) where
+  long : length bytes ≡ l.header + l.card * count_of bytes
+  long = w.register ∙ ap (λ y. size_of y (count_of bytes)) (sym e)
+
+  short_card : l.card ≡ 24
+  short_card = ap (λ (y : Layout). y.card) e ∙ w.card
+
+  pub header_there : l.header ≤ length bytes
+  header_there = omega (arith, long)
+
   -- what stands behind the header, as the code takes it
-  behind : take (length bytes - 7) (drop 7 bytes) ≡ drop 7 bytes
-  behind = take_all (length bytes - 7) (drop 7 bytes) (omega (arith, length-drop 7 bytes))
+  behind : take (length bytes - l.header) (drop l.header bytes) ≡ drop l.header bytes
+  behind = take_all (length bytes - l.header) (drop l.header bytes) (omega (arith, length-drop l.header bytes))
 
-  behind_length : length (drop 7 bytes) ≡ 24 * two_at bytes 5
-  behind_length = omega (arith, length-drop 7 bytes, fits)
-
-  behind_count : length (take (length bytes - 7) (drop 7 bytes)) / 24 ≡ two_at bytes 5
+  behind_count : length (take (length bytes - l.header) (drop l.header bytes)) / 24 ≡ count_of bytes
   behind_count =
-      let z : length (take (length bytes - 7) (drop 7 bytes)) ≡ 24 * two_at bytes 5 = ap length behind ∙ behind_length in
-      omega (arith, z)
+      let z : length (take (length bytes - l.header) (drop l.header bytes)) ≡ length (drop l.header bytes) = ap length behind in
+      let c : l.card * count_of bytes ≡ 24 * count_of bytes = ap (λ k. k * count_of bytes) short_card in
+      omega (arith, z, length-drop l.header bytes, long, c)
 
-  pub header_there : 7 ≤ length bytes
-  header_there = omega (arith, fits)
+  pub cards_cut_out : (cards : List (List ℕ)) → cards ≡ first_chunks 24 (length (take (length bytes - l.header) (drop l.header bytes)) / 24) (take (length bytes - l.header) (drop l.header bytes)) → cards ≡ cards_in bytes
+  unfolding cards_in
+  cards_cut_out cards q =
+      q
+      ∙ (ap₂ (λ n rest. first_chunks 24 n rest) behind_count behind
+      ∙ (ap (λ k. first_chunks k (count_of bytes) (drop l.header bytes)) (sym short_card)
+      ∙ ap (λ (y : Layout). first_chunks y.card (count_of bytes) (drop y.header bytes)) e))
 
-  pub cards_counted : (cards : List (List ℕ)) → length cards ≡ length (take (length bytes - 7) (drop 7 bytes)) / 24 → length cards ≡ two_at bytes 5
-  cards_counted cards e = e ∙ behind_count
+-- how many they are, and that their bytes are what stands behind the header
+pub cards_counted : (bytes : List ℕ) → length (cards_in bytes) ≡ count_of bytes
+unfolding cards_in
+cards_counted bytes = chunks_count (layout_in bytes).card (count_of bytes) (drop (layout_in bytes).header bytes)
 
-  pub cards_joined : (cards : List (List ℕ)) → cards ≡ first_chunks 24 (length (take (length bytes - 7) (drop 7 bytes)) / 24) (take (length bytes - 7) (drop 7 bytes)) → concat cards ≡ drop 7 bytes
-  cards_joined cards e =
-      ap concat (e ∙ ap (λ n. first_chunks 24 n (take (length bytes - 7) (drop 7 bytes))) behind_count)
-      ∙ (ap (λ rest. concat (first_chunks 24 (two_at bytes 5) rest)) behind ∙ joined_chunks (two_at bytes 5) (drop 7 bytes) behind_length)
+pub cards_joined : (bytes : List ℕ) → Whole bytes → concat (cards_in bytes) ≡ drop (layout_in bytes).header bytes
+unfolding cards_in
+cards_joined bytes w =
+    chunks_joined (layout_in bytes).card (count_of bytes) (drop (layout_in bytes).header bytes)
+    (omega (arith, length-drop (layout_in bytes).header bytes, w.register))
 
 -- ---- from the cards to the bytes
 

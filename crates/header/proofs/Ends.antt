@@ -1,44 +1,54 @@
 -- What a header that is not refused says of the two lengths, and that the count it gives is the register's.
 -- Assumes nothing.
-use Rattle.std.specs.Prelude.{ℕ, ◌≡◌, refl, ◌*◌, ◌≤◌, Bool, true, false, List, Result, Ok}
-use Rattle.std.proofs.Common.{arith}
+use Rattle.std.specs.Prelude.{ℕ, ◌≡◌, refl, ◌*◌, ◌≤◌, Bool, true, false, eqb, length, List, Option, Some, None, Ok}
+use Rattle.std.proofs.Common.{arith, ◌∙◌, sym}
 use Rattle.search.specs.Laws.{clash}
 use Rattle.std.proofs.lemmas.Bool.Decides.{nat_tests}
-use Rattle.buffer.specs.Numbers.{two_at}
-use Rattle.refusals.specs.declared.Refusal.{Refusal}
 use Rattle.refusals.specs.declared.Refusal.TheVariants as refusal
-use Rattle.header.specs.Header.{answer_size, bad_length, bad_version, bad_count, bad_buffer, count_of, header_if, header_of, Fitting}
+use Rattle.header.specs.declared.Layout.{Layout}
+use Rattle.header.specs.Header.{version_of, count_of, first_layout, second_layout, layout_of, laid, layout_in, size_of, bad_length, bad_version, bad_count, bad_buffer, unknown, header_if, header_of, Fitting}
 
-pub header_fits : (bytes : List ℕ) (room : ℕ) (k : Bool) (n : ℕ) → k ≡ bad_count bytes → k ≡ false → n ≡ two_at bytes 5 → 16 * n ≤ room → Fitting bytes room n
-unfolding bad_count
-header_fits bytes room k n h m w z = grind (arith, nat_tests)
+-- a version that somebody gives has cards of 24 bytes
+card_size : (v : ℕ) → unknown (layout_of v) ≡ false → (laid (layout_of v)).card ≡ 24
+unfolding layout_of
+card_size v = go (eqb v 1) (eqb v 2)
+  where
+    versions : Bool → Bool → Option Layout
+    versions a b =
+        elim a [
+          | true ↦ Some first_layout
+          | false ↦ elim b [ true ↦ Some second_layout | false ↦ None ]
+        ]
 
--- a check that a good header passes
-passed : (b : Bool) (r : Refusal) (h : Result ℕ Refusal) {n : ℕ} → header_if b r h ≡ Ok n → (b ≡ false) × (h ≡ Ok n)
-passed true r h e = clash (cc)
-passed false r h e = (refl, e)
+    go : (a b : Bool) → unknown (versions a b) ≡ false → (laid (versions a b)).card ≡ 24
+    go true b e = refl
+    go false true e = refl
+    go false false e = clash (cc)
 
--- it passes them all
-module _ (bytes : List ℕ) (room n : ℕ) (e : header_of bytes room ≡ Ok n) where
-  counted : (bad_count bytes ≡ false) × (bad_buffer bytes room ≡ false) × (n ≡ count_of bytes)
-  unfolding header_of
-  counted =
-      let fourth : Result ℕ Refusal = header_if (bad_buffer bytes room) refusal.Buffer (Ok (count_of bytes)) in
-      let third : Result ℕ Refusal = header_if (bad_count bytes) refusal.Count fourth in
-      let second : Result ℕ Refusal = header_if (bad_version bytes) refusal.Version third in
-      let a = passed (bad_length bytes) refusal.Length second e in
-      let b = passed (bad_version bytes) refusal.Version third a.1 in
-      let c = passed (bad_count bytes) refusal.Count fourth b.1 in
-      let d = passed (bad_buffer bytes room) refusal.Buffer (Ok (count_of bytes)) c.1 in
-      let same : ◌≡◌ {A = Result ℕ Refusal} (Ok (count_of bytes)) (Ok n) = d.1 in
-      let z : n ≡ count_of bytes = cc in (c.0, d.0, z)
+-- what the checks of version, count and buffer leave
+pub header_fits : (bytes : List ℕ) (room n : ℕ) (v k : Bool) → v ≡ bad_version bytes → v ≡ false → k ≡ bad_count bytes → k ≡ false → n ≡ count_of bytes → 16 * n ≤ room → Fitting bytes room n
+unfolding bad_version bad_count layout_in
+header_fits bytes room n v k p vf q kf e roomy =
+    let few : count_of bytes ≤ 2_000 = grind (arith, nat_tests, q, kf) in
+    let long : length bytes ≡ size_of (layout_in bytes) (count_of bytes) = grind (arith, nat_tests, q, kf) in
+    record {
+      cards = omega (arith, few, e);
+      counted = e;
+      whole = record { register = long; card = card_size (version_of bytes) (sym p ∙ vf) };
+      answers = roomy;
+    }
 
-  roomy : answer_size * count_of bytes ≤ room
-  unfolding bad_buffer
-  roomy = let z = counted.1 in grind (arith, nat_tests)
-
-  pub header_count : n ≡ count_of bytes
-  header_count = counted.2
-
-  pub header_fitting : Fitting bytes room (count_of bytes)
-  header_fitting = header_fits bytes room (bad_count bytes) (count_of bytes) refl counted.0 refl roomy
+pub header_fitting : (bytes : List ℕ) (room n : ℕ) → header_of bytes room ≡ Ok n → Fitting bytes room n
+unfolding header_of bad_buffer
+header_fitting bytes room n = go (bad_length bytes) (bad_version bytes) (bad_count bytes) (bad_buffer bytes room) refl refl refl
+  where
+    go : (a v k b : Bool) → bad_version bytes ≡ v → bad_count bytes ≡ k → bad_buffer bytes room ≡ b
+        → header_if a refusal.Length (header_if v refusal.Version (header_if k refusal.Count (header_if b refusal.Buffer (Ok (count_of bytes))))) ≡ Ok n
+        → Fitting bytes room n
+    go true v k b p q t e = clash (cc)
+    go false true k b p q t e = clash (cc)
+    go false false true b p q t e = clash (cc)
+    go false false false true p q t e = clash (cc)
+    go false false false false p q t e =
+        let same : count_of bytes ≡ n = cc in
+        header_fits bytes room n false false (sym p) refl (sym q) refl (sym same) (let z : 16 * count_of bytes ≤ room = grind (arith, nat_tests, t) in omega (arith, z, same))

@@ -1,9 +1,8 @@
-// The header of a register: document 01's checks 1 to 4.
+// The header of a register: what its version means, the cards behind it, and document 01's checks 1 to 4.
 #![tactic(auto)]
 
-ghost use Rattle.std.specs.Prelude.{◌≡◌, ◌+◌, ◌*◌, length, drop};
-ghost use Rattle.std.specs.List.{concat};
-ghost use Rattle.header.specs.Header.{header_size, card_size, count_of, bad_length, bad_version, bad_count, header_of, HeaderFits};
+ghost use Rattle.std.specs.Prelude.{◌≡◌, ◌≤◌};
+ghost use Rattle.header.specs.Header.{layout_of, layout_in, stored_in, cards_in, bad_length, bad_version, bad_count, header_of, Whole, HeaderFits};
 
 use refusals::Refusal;
 
@@ -13,25 +12,79 @@ pub const MOST_CARDS: usize = 2_000;
 // An answer buffer for that many, so that no register is refused for the buffer.
 pub const ENOUGH: usize = 32_000;
 
+// What a version means: how many bytes the header has and how many a card, and whether the header stores the farthest distances.
+#[derive(Clone, Copy)]
+pub struct Layout {
+    pub header: usize,
+    pub card: usize,
+    pub stores: bool,
+}
+
+// The two distances that a header stores, in hundredths of a mile: 0 where the class has no card.
+#[derive(Clone, Copy, PartialEq, Eq)]
+pub struct Stored {
+    pub toxic: u16,
+    pub flammable: u16,
+}
+
+// The versions: the one place in the code that tells them apart.
+#[tactic(auto, unfolding(crate::specs::Header::layout_of))]
+pub fn layout_of(version: u8) -> Option<Layout>
+    ensures { result ≡ layout_of version }
+{
+    match version {
+        1 => Some(Layout {
+            header: 7,
+            card: 24,
+            stores: false,
+        }),
+        2 => Some(Layout {
+            header: 11,
+            card: 24,
+            stores: true,
+        }),
+        _ => None,
+    }
+}
+
+// The layout of a register; a version that nobody gives has none.
+#[tactic(auto, unfolding(crate::specs::Header::layout_in, crate::specs::Header::layout_of))]
+fn layout_in(register: &[u8]) -> Layout
+    ensures value { result ≡ layout_in register.now }
+    ensures header_bound { result.header ≤ 11 }
+    ensures card_bound { result.card ≤ 24 }
+{
+    layout_of(buffer::byte(register, 4)).unwrap_or(Layout {
+        header: 0,
+        card: 0,
+        stores: false,
+    })
+}
+
+#[tactic(auto, unfolding(crate::specs::Header::bad_length))]
 fn bad_length(register: &[u8]) -> bool
     ensures { result ≡ bad_length register.now }
 {
     register.len() < 7 || buffer::four(register, 0) as usize != register.len()
 }
 
+#[tactic(auto, unfolding(crate::specs::Header::bad_version))]
 fn bad_version(register: &[u8]) -> bool
     ensures { result ≡ bad_version register.now }
 {
-    buffer::byte(register, 4) != 1
+    layout_of(buffer::byte(register, 4)).is_none()
 }
 
+#[tactic(auto, unfolding(crate::specs::Header::bad_count))]
 fn bad_count(register: &[u8]) -> bool
     ensures { result ≡ bad_count register.now }
 {
+    let layout = layout_in(register);
     let count = buffer::two(register, 5) as usize;
-    MOST_CARDS < count || register.len() != 7 + 24 * count
+    MOST_CARDS < count || register.len() != layout.header + layout.card * count
 }
 
+#[tactic(auto, unfolding(crate::specs::Header::header_of, crate::specs::Header::bad_buffer))]
 // The checks 1 to 4 in turn: how many cards a register has, or why it is sent back before its first card.
 pub fn header_of(register: &[u8], room: usize) -> Result<usize, Refusal>
     ensures value { result ≡ header_of register.now room }
@@ -53,14 +106,26 @@ pub fn header_of(register: &[u8], room: usize) -> Result<usize, Refusal>
     Ok(count)
 }
 
-// The cards of a register whose length is that of its count, as a good header says and as an accepted register has it: 24 bytes
-// each, one behind the other.
-#[tactic(auto, using(crate::proofs::Cards::header_there, crate::proofs::Cards::cards_counted, crate::proofs::Cards::cards_joined))]
+// The cards of a register that is as long as its header says, each its 24 bytes.
+#[tactic(auto, using(crate::proofs::Cards::header_there, crate::proofs::Cards::cards_counted, crate::proofs::Cards::cards_cut_out))]
 pub fn cards_of(register: &[u8]) -> &[[u8; 24]]
-    requires { length register.now ≡ header_size + card_size * count_of register.now }
-    ensures count { length result.now ≡ count_of register.now }
-    ensures bytes { concat result.now ≡ drop header_size register.now }
+    requires { Whole register.now }
+    ensures { result.now ≡ cards_in register.now }
 {
-    let (cards, _) = register[7..].as_chunks::<24>();
+    let (cards, _) = register[layout_in(register).header..].as_chunks::<24>();
     cards
+}
+
+// The distances that a register's header stores, where its version has them.
+#[tactic(auto, unfolding(crate::specs::Header::stored_in))]
+pub fn stored_of(register: &[u8]) -> Option<Stored>
+    ensures { result ≡ stored_in register.now }
+{
+    if !layout_in(register).stores {
+        return None;
+    }
+    Some(Stored {
+        toxic: buffer::two(register, 7),
+        flammable: buffer::two(register, 9),
+    })
 }

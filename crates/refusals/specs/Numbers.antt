@@ -28,6 +28,9 @@ number_of refusal.Concentration = 16
 -- A6
 number_of refusal.SuppliedRate = 17
 number_of refusal.SuppliedDuration = 18
+-- A9
+number_of refusal.Presence = 19
+number_of refusal.Capacity = 20
 
 -- "A refusal carries its number and the card's place"
 abbrev pub refused_at : {Place : Type 0} → Refusal → Place → SentBack Place

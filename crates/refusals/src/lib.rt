@@ -25,6 +25,8 @@ pub enum Refusal {
     Concentration = 16,
     SuppliedRate = 17,
     SuppliedDuration = 18,
+    Presence = 19,
+    Capacity = 20,
 }
 
 // A refusal and its place: a card's, counted from 0, or a line's, counted from 1.

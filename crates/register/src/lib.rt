@@ -2,40 +2,45 @@
 #![tactic(auto)]
 
 ghost use Rattle.std.specs.Prelude.{◌≡◌, ◌*◌, ◌≤◌, length};
-ghost use Rattle.std.specs.List.{concat};
-ghost use Rattle.cards.specs.Register.{cards_from, result_of, filled_with, outcome_of, buffer_of};
+ghost use Rattle.cards.specs.Register.{cards_from, settled, result_of, filled_with, outcome_of, buffer_of};
 
 use farthest::Leaders;
+use header::Stored;
 use refusals::SentBack;
 use walk::Nothing;
 
 // The answers of a register's cards, by way of a buffer of this length.
 fn answer_by<const ROOM: usize>(
     cards: &[[u8; 24]],
+    stored: Option<Stored>,
     answers: &mut [u8],
 ) -> Result<Leaders, SentBack<u32>>
     requires { (16 * length cards.now ≤ ROOM) × (ROOM ≤ 32_000) × (length cards.now ≤ 2000) × (16 * length cards.now ≤ length answers.old) }
-    ensures value { result ≡ result_of (cards_from (length cards.now) 0 0 (concat cards.now)) }
-    ensures answers_after { answers.new ≡ filled_with (cards_from (length cards.now) 0 0 (concat cards.now)) answers.old }
+    ensures value { result ≡ result_of (settled stored (cards_from 0 0 cards.now)) }
+    ensures answers_after { answers.new ≡ filled_with (settled stored (cards_from 0 0 cards.now)) answers.old }
 {
     let mut scratch = [0u8; ROOM];
-    cards::answer_through(cards, &mut scratch, answers)
+    cards::answer_through(cards, stored, &mut scratch, answers)
 }
 
 // A short register has a short buffer: to clear the long one, with room for as many cards as a register may have, costs about as
 // much as four cards.
-fn answer_all(cards: &[[u8; 24]], answers: &mut [u8]) -> Result<Leaders, SentBack<u32>>
+fn answer_all(
+    cards: &[[u8; 24]],
+    stored: Option<Stored>,
+    answers: &mut [u8],
+) -> Result<Leaders, SentBack<u32>>
     requires { (length cards.now ≤ 2000) × (16 * length cards.now ≤ length answers.old) }
-    ensures value { result ≡ result_of (cards_from (length cards.now) 0 0 (concat cards.now)) }
-    ensures answers_after { answers.new ≡ filled_with (cards_from (length cards.now) 0 0 (concat cards.now)) answers.old }
+    ensures value { result ≡ result_of (settled stored (cards_from 0 0 cards.now)) }
+    ensures answers_after { answers.new ≡ filled_with (settled stored (cards_from 0 0 cards.now)) answers.old }
 {
     if cards.len() <= 1 {
-        return cards::answer_one(cards, answers);
+        return answer_by::<16>(cards, stored, answers);
     }
     if cards.len() <= 64 {
-        return answer_by::<1_024>(cards, answers);
+        return answer_by::<1_024>(cards, stored, answers);
     }
-    answer_by::<32_000>(cards, answers)
+    answer_by::<32_000>(cards, stored, answers)
 }
 
 // The call that everyone uses: a register and a lent answer buffer. Every card is checked before a byte is written.
@@ -44,16 +49,20 @@ pub fn fill(register: &[u8], answers: &mut [u8]) -> Result<Leaders, SentBack<u32
     ensures answers_after { answers.new ≡ buffer_of register.now answers.old }
 {
     header::header_of(register, answers.len())?;
-    answer_all(header::cards_of(register), answers)
+    answer_all(
+        header::cards_of(register),
+        header::stored_of(register),
+        answers,
+    )
 }
 
 // The walk that only asks writes nothing.
-fn ask(cards: &[[u8; 24]]) -> Result<Leaders, SentBack<u32>>
+fn ask(cards: &[[u8; 24]], stored: Option<Stored>) -> Result<Leaders, SentBack<u32>>
     requires { length cards.now ≤ 2000 }
-    ensures { result ≡ result_of (cards_from (length cards.now) 0 0 (concat cards.now)) }
+    ensures { result ≡ result_of (settled stored (cards_from 0 0 cards.now)) }
 {
-    let walked = walk::through::<Nothing>(cards, &mut []);
-    walk::outcome_of(walked)
+    let (running, _) = walk::through::<Nothing>(cards, &mut [])?;
+    cards::held_to(stored, running.leaders)
 }
 
 // What the call would answer with a buffer of this length, and no byte is written: what a reader asks who lists a register.
@@ -61,5 +70,5 @@ pub fn outcome_of(register: &[u8], room: usize) -> Result<Leaders, SentBack<u32>
     ensures { result ≡ outcome_of register.now room }
 {
     header::header_of(register, room)?;
-    ask(header::cards_of(register))
+    ask(header::cards_of(register), header::stored_of(register))
 }

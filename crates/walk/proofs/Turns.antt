@@ -3,25 +3,23 @@
 -- Assumes nothing.
 use Rattle.std.specs.Prelude.{Result, Ok, Err}
 use Rattle.refusals.specs.declared.SentBack.{SentBack}
-use Prim.Native.Nat.{ℕ, suc, ◌+◌, ◌-◌, ◌*◌, ◌≤◌, ◌<◌}
+use Prim.Native.Nat.{ℕ, suc, ◌+◌, ◌*◌, ◌≤◌, ◌<◌}
 use native.Mathlib.Omega.{arith}
-use native.Mathlib.Nat.{sub-zero, mul-suc, mul-le-mul_left}
+use native.Mathlib.Nat.{mul-suc, mul-le-mul_left}
 use native.Mathlib.Numerals.{add-one}
 use mathlib.Core.Path.{◌≡◌, ◌∙◌, ap, ap₂, sym}
-use mathlib.Core.List.{List, [], ◌++◌}
-use lib.ListN.{length, take, drop, get_or}
-use lib.Seq.{sets, take_at, drop_at}
-use Rattle.std.specs.List.{concat}
-use Rattle.header.proofs.Cards.{Sized, cards_more}
+use mathlib.Core.List.{List, [], ◌∷◌, ◌++◌}
+use lib.ListN.{length, drop, get_or}
+use lib.Seq.{sets}
+use Rattle.std.proofs.Common.{drop-cons}
+use Rattle.std.proofs.lemmas.List.{drop_all}
 use Rattle.buffer.specs.Wrote.{Wrote}
 use Rattle.buffer.proofs.Laws.{sets_append}
 use Rattle.card.specs.declared.Answer.{Answer}
 use Rattle.running.specs.declared.Running.{Running}
 use Rattle.running.specs.Running.{step_of}
 use Rattle.running.proofs.Laws.{on_place}
-use Rattle.walk.specs.Walk.{go_on, walk_from, write_on, text_from, end_of}
-
--- ---- the walk
+use Rattle.walk.specs.Walk.{go_on, walk_from, write_on, text_from}
 
 -- what the lent buffer holds is what the writer's does at the end of the walk
 pub held_after : (written : List ℕ) {held after : List ℕ} → held ≡ written → written ≡ after → held ≡ after
@@ -30,38 +28,23 @@ held_after written e q = e ∙ q
 module _ (cards : List (List ℕ)) (told : Answer → List ℕ) (most : ℕ) where
   -- what is left of the walk from a card, running values and a position on
   abbrev pub Left : ℕ → Running → ℕ → Result (Running × ℕ) (SentBack ℕ)
-  Left i s at = walk_from told (length cards - i) s at (concat (drop i cards))
+  Left i s at = walk_from told s at (drop i cards)
 
   -- and what is left to write
   abbrev pub Unwritten : ℕ → Running → List ℕ
-  Unwritten i s = text_from told (length cards - i) s (concat (drop i cards))
+  Unwritten i s = text_from told s (drop i cards)
 
   -- so many bytes a card at most: there is room for the next
   pub room : (at i : ℕ) (out out₀ : List ℕ) → i < length cards → at ≤ most * i → length out ≡ length out₀ → most * length cards ≤ length out₀ → at + most ≤ length out
   room at i out out₀ h k l m = omega (arith, mul-suc (most) i, mul-le-mul_left (most) h)
 
-  module _ (i : ℕ) (s : Running) (h : i < length cards) (sized : Sized cards) (x : Result (Running × Answer) (SentBack ℕ)) (e : x ≡ step_of s (get_or cards i [])) where
+  module _ (i : ℕ) (s : Running) (h : i < length cards) (x : Result (Running × Answer) (SentBack ℕ)) (e : x ≡ step_of s (get_or cards i [])) where
     card : List ℕ
     card = get_or cards i []
 
-    left : length cards - i ≡ suc (length cards - (i + 1))
-    left = omega arith
-
-    more : concat (drop i cards) ≡ card ++ concat (drop (i + 1) cards)
+    more : drop i cards ≡ card ∷ drop (i + 1) cards
     unfolding card
-    more = rw (add-one i) (cards_more cards i h)
-
-    first : take 24 (concat (drop i cards)) ≡ card
-    unfolding card
-    first = ap (take 24) more ∙ take_at card (concat (drop (i + 1) cards)) 24 (sized i h)
-
-    next : drop 24 (concat (drop i cards)) ≡ concat (drop (i + 1) cards)
-    unfolding card
-    next = ap (drop 24) more ∙ drop_at card (concat (drop (i + 1) cards)) 24 (sized i h)
-
-    step_is : (y : Result (Running × Answer) (SentBack ℕ)) → x ≡ y → step_of s (take 24 (concat (drop i cards))) ≡ y
-    unfolding card
-    step_is y q = ap (step_of s) first ∙ (sym e ∙ q)
+    more = rw (add-one i) (drop-cons cards i [] h)
 
     -- what the walk comes to behind the card, and what it writes of the card and behind it
     abbrev Onward : ℕ → Running → Answer → Result (Running × ℕ) (SentBack ℕ)
@@ -71,16 +54,12 @@ module _ (cards : List (List ℕ)) (told : Answer → List ℕ) (most : ℕ) whe
     Written t a = told a ++ Unwritten (i + 1) t
 
     left_is : (at : ℕ) (y : Result (Running × Answer) (SentBack ℕ)) → x ≡ y → Left i s at ≡ go_on y (Onward at)
-    unfolding walk_from
-    left_is at y q =
-        ap (λ n. walk_from told n s at (concat (drop i cards))) left
-        ∙ ap₂ (λ z rest. go_on z (λ t a. walk_from told (length cards - (i + 1)) t (at + length (told a)) rest)) (step_is y q) next
+    unfolding walk_from card
+    left_is at y q = ap (walk_from told s at) more ∙ ap (λ z. go_on z (Onward at)) (sym e ∙ q)
 
     unwritten_is : (y : Result (Running × Answer) (SentBack ℕ)) → x ≡ y → Unwritten i s ≡ write_on y Written
-    unfolding text_from
-    unwritten_is y q =
-        ap (λ n. text_from told n s (concat (drop i cards))) left
-        ∙ ap₂ (λ z rest. write_on z (λ t a. told a ++ text_from told (length cards - (i + 1)) t rest)) (step_is y q) next
+    unfolding text_from card
+    unwritten_is y q = ap (text_from told s) more ∙ ap (λ z. write_on z Written) (sym e ∙ q)
 
     -- a card that is answered: the walk goes on from the next place
     module _ (t : Running) (a : Answer) (q : x ≡ Ok (t, a)) where
@@ -103,39 +82,24 @@ module _ (cards : List (List ℕ)) (told : Answer → List ℕ) (most : ℕ) whe
 
     -- a card that is refused: the walk ends there, and nothing more is written
     module _ (sent : SentBack ℕ) (q : x ≡ Err sent) where
-      pub refused_left : (at : ℕ) (from : Running) → Left i s at ≡ Left 0 from 0 → Err sent ≡ walk_from told (length cards) from 0 (concat cards)
-      refused_left at from k =
-          sym (left_is at (Err sent) q) ∙ (k ∙ ap (λ n. walk_from told n from 0 (concat cards)) (sub-zero (length cards)))
+      pub refused_left : (at : ℕ) (from : Running) → Left i s at ≡ Left 0 from 0 → Err sent ≡ walk_from told from 0 cards
+      refused_left at from k = sym (left_is at (Err sent) q) ∙ k
 
-      pub refused_written : (out before : List ℕ) (at : ℕ) (from : Running) → sets out at (Unwritten i s) ≡ sets before 0 (Unwritten 0 from) → out ≡ sets before 0 (text_from told (length cards) from (concat cards))
-      refused_written out before at from k =
-          ap (sets out at) (sym (unwritten_is (Err sent) q))
-          ∙ (k ∙ ap (λ n. sets before 0 (text_from told n from (concat cards))) (sub-zero (length cards)))
+      pub refused_written : (out before : List ℕ) (at : ℕ) (from : Running) → sets out at (Unwritten i s) ≡ sets before 0 (Unwritten 0 from) → out ≡ sets before 0 (text_from told from cards)
+      refused_written out before at from k = ap (sets out at) (sym (unwritten_is (Err sent) q)) ∙ k
 
   -- no card is left
   module _ (i : ℕ) (h : length cards ≤ i) where
-    none : length cards - i ≡ 0
-    none = omega arith
+    none : drop i cards ≡ []
+    none = drop_all i cards h
 
-    pub end_left : (s from : Running) (at : ℕ) → Left i s at ≡ Left 0 from 0 → Ok (s, at) ≡ walk_from told (length cards) from 0 (concat cards)
+    pub end_left : (s from : Running) (at : ℕ) → Left i s at ≡ Left 0 from 0 → Ok (s, at) ≡ walk_from told from 0 cards
     unfolding walk_from
-    end_left s from at k =
-        ap (λ n. walk_from told n s at (concat (drop i cards))) (sym none)
-        ∙ (k ∙ ap (λ n. walk_from told n from 0 (concat cards)) (sub-zero (length cards)))
+    end_left s from at k = ap (walk_from told s at) (sym none) ∙ k
 
-    pub end_written : (s from : Running) (out before : List ℕ) (at : ℕ) → sets out at (Unwritten i s) ≡ sets before 0 (Unwritten 0 from) → out ≡ sets before 0 (text_from told (length cards) from (concat cards))
+    pub end_written : (s from : Running) (out before : List ℕ) (at : ℕ) → sets out at (Unwritten i s) ≡ sets before 0 (Unwritten 0 from) → out ≡ sets before 0 (text_from told from cards)
     unfolding text_from
-    end_written s from out before at k =
-        ap (λ n. sets out at (text_from told n s (concat (drop i cards)))) (sym none)
-        ∙ (k ∙ ap (λ n. sets before 0 (text_from told n from (concat cards))) (sub-zero (length cards)))
+    end_written s from out before at k = ap (λ rest. sets out at (text_from told s rest)) (sym none) ∙ k
 
     pub end_within : (at : ℕ) → i ≤ length cards → at ≤ most * i → at ≤ most * length cards
     end_within at l k = omega (arith, mul-le-mul_left (most) l)
-
--- ---- the end of a walk as a call's answer
-
-pub ended_on : (x : Result (Running × ℕ) (SentBack ℕ)) (s : Running) (n : ℕ) → x ≡ Ok (s, n) → Ok s.leaders ≡ end_of x
-ended_on x s n e = ap end_of (sym e)
-
-pub ended_refused : (x : Result (Running × ℕ) (SentBack ℕ)) (sent : SentBack ℕ) → x ≡ Err sent → Err sent ≡ end_of x
-ended_refused x sent e = ap end_of (sym e)

@@ -2,11 +2,9 @@
 -- written on the way. It serves the proofs; what a register is stands in `cards/specs/Register.antt`, and the laws beside it join
 -- the two.
 -- Assumes nothing.
-use Rattle.std.specs.Prelude.{ℕ, zero, suc, ◌+◌, ◌≤◌, List, [], ◌∷◌, ◌++◌, length, take, drop, Result, Ok, Err}
-use Rattle.farthest.specs.declared.Leaders.{Leaders}
+use Rattle.std.specs.Prelude.{ℕ, ◌+◌, ◌≤◌, List, [], ◌∷◌, ◌++◌, length, Result, Ok, Err}
 use Rattle.refusals.specs.declared.SentBack.{SentBack}
 use Rattle.card.specs.declared.Answer.{Answer}
-use Rattle.header.specs.Header.{card_size}
 use Rattle.running.specs.declared.Running.{Running}
 use Rattle.running.specs.Running.{step_of}
 
@@ -24,25 +22,18 @@ go_on (Ok (s, a)) further = further s a
 go_on (Err sent) further = Err sent
 
 -- the cards that are left, from the running values and the bytes written so far
-unfoldable pub walk_from : (Answer → List ℕ) → ℕ → Running → ℕ → List ℕ → Result (Running × ℕ) (SentBack ℕ)
-walk_from told zero s at bytes = Ok (s, at)
-walk_from told (suc left) s at bytes =
-    go_on (step_of s (take card_size bytes)) (λ t a. walk_from told left t (at + length (told a)) (drop card_size bytes))
+unfoldable pub walk_from : (Answer → List ℕ) → Running → ℕ → List (List ℕ) → Result (Running × ℕ) (SentBack ℕ)
+walk_from told s at [] = Ok (s, at)
+walk_from told s at (card ∷ rest) = go_on (step_of s card) (λ t a. walk_from told t (at + length (told a)) rest)
 
 abbrev pub write_on : Result (Running × Answer) (SentBack ℕ) → (Running → Answer → List ℕ) → List ℕ
 write_on (Ok (s, a)) further = further s a
 write_on (Err sent) further = []
 
 -- what is written of the cards that are left, up to the first that is refused
-unfoldable pub text_from : (Answer → List ℕ) → ℕ → Running → List ℕ → List ℕ
-text_from told zero s bytes = []
-text_from told (suc left) s bytes =
-    write_on (step_of s (take card_size bytes)) (λ t a. told a ++ text_from told left t (drop card_size bytes))
-
--- the end of a walk through all cards as a call's answer
-abbrev pub end_of : Result (Running × ℕ) (SentBack ℕ) → Result Leaders (SentBack ℕ)
-end_of (Ok (s, at)) = Ok s.leaders
-end_of (Err sent) = Err sent
+unfoldable pub text_from : (Answer → List ℕ) → Running → List (List ℕ) → List ℕ
+text_from told s [] = []
+text_from told s (card ∷ rest) = write_on (step_of s card) (λ t a. told a ++ text_from told t rest)
 
 -- what is written has room
 abbrev pub Within : ℕ → Result (Running × ℕ) (SentBack ℕ) → Type 0

@@ -3,18 +3,16 @@
 #![tactic(auto)]
 
 ghost use Rattle.std.specs.Prelude.{◌≡◌, ℕ, ◌+◌, ◌*◌, ◌≤◌, List, length};
-ghost use Rattle.std.specs.List.{concat};
 ghost use Rattle.std.proofs.lemmas.List.Edits.{sets};
 ghost use Rattle.buffer.specs.Puts.{Room, Puts};
 ghost use Rattle.card.specs.declared.Answer.{Answer};
 ghost use Rattle.encode.specs.Bytes.{answer_bytes};
 ghost use Rattle.lines.specs.Lines.{card_line};
 ghost use Rattle.running.specs.Running.{before_cards};
-ghost use Rattle.walk.specs.Walk.{nothing_of, walk_from, text_from, end_of, Within};
+ghost use Rattle.walk.specs.Walk.{nothing_of, walk_from, text_from, Within};
 
 use buffer::Writer;
 use card::Answer;
-use farthest::Leaders;
 use refusals::SentBack;
 use running::Running;
 
@@ -75,8 +73,8 @@ pub fn along<W: Writes>(
     out: &mut [u8],
 ) -> Result<(Running, usize), SentBack<u32>>
     requires { (from.place + length cards.now ≤ 2000) × (W.most * length cards.now ≤ length out.old) }
-    ensures value { result ≡ walk_from W.text (length cards.now) from 0 (concat cards.now) }
-    ensures out_after { out.new ≡ sets out.old 0 (text_from W.text (length cards.now) from (concat cards.now)) }
+    ensures value { result ≡ walk_from W.text from 0 cards.now }
+    ensures out_after { out.new ≡ sets out.old 0 (text_from W.text from cards.now) }
     ensures within { Within (W.most * length cards.now) result }
 {
     let mut running = from;
@@ -100,17 +98,9 @@ pub fn through<W: Writes>(
     out: &mut [u8],
 ) -> Result<(Running, usize), SentBack<u32>>
     requires { (length cards.now ≤ 2000) × (W.most * length cards.now ≤ length out.old) }
-    ensures value { result ≡ walk_from W.text (length cards.now) before_cards 0 (concat cards.now) }
-    ensures out_after { out.new ≡ sets out.old 0 (text_from W.text (length cards.now) before_cards (concat cards.now)) }
+    ensures value { result ≡ walk_from W.text before_cards 0 cards.now }
+    ensures out_after { out.new ≡ sets out.old 0 (text_from W.text before_cards cards.now) }
     ensures within { Within (W.most * length cards.now) result }
 {
     along::<W>(cards, running::start(), out)
-}
-
-// The end of a walk through all cards as a call's answer: both classes' farthest.
-pub fn outcome_of(walked: Result<(Running, usize), SentBack<u32>>) -> Result<Leaders, SentBack<u32>>
-    ensures { result ≡ end_of walked }
-{
-    let (running, _) = walked?;
-    Ok(running.leaders)
 }
