@@ -2,44 +2,53 @@
 // would then be is laid in a buffer of its own, of cards that have passed, before a byte of the lent one changes.
 #![tactic(auto)]
 
-ghost use Rattle.std.specs.Prelude.{◌≡◌, ◌+◌, ◌*◌, ◌≤◌, [], ◌∷◌, ◌++◌, length};
-ghost use Rattle.cards.specs.Register.{cards_from, result_of};
-ghost use Rattle.edits.specs.Edits.{card_number, add, replace, withdraw, changed, register_with, register_by, length_of, edit_of, left_by, buffer_after};
-ghost use Rattle.edits.specs.Around.{AllPass};
-ghost use Rattle.edit.specs.Laid.{LaidIn};
+ghost use Rattle.std.specs.Prelude.{◌≡◌, ◌+◌, ◌*◌, ◌≤◌, ◌++◌, length};
+ghost use Rattle.edits.specs.Edits.{add, replace, withdraw, bad_presence, bad_capacity, register_with, register_by, held, length_of, edit_of, left_by, buffer_after};
+ghost use Rattle.edits.specs.Around.{Brings};
+ghost use Rattle.edit.specs.Laid.{Ready, change_of, way_of, Known, LaidIn};
 
 use buffer::Writer;
 use farthest::Leaders;
+use header::Stored;
 use refusals::{Refusal, SentBack};
-use walk::Nothing;
+use running::Running;
 
-// The farthest of three lists of cards, one behind the other, or the first card of them that is sent back.
-fn leaders_of(
-    front: &[[u8; 24]],
-    brought: &[[u8; 24]],
-    behind: &[[u8; 24]],
-) -> Result<Leaders, SentBack<u32>>
-    requires { length front.now + (length brought.now + length behind.now) ≤ 2000 }
-    ensures { result ≡ result_of (cards_from 0 0 (front.now ++ (brought.now ++ behind.now))) }
+// 19, then 20: a card of the number is not there or must not be, or the register has no room.
+fn in_the_way(
+    wanted: bool,
+    there: bool,
+    room: usize,
+    count: usize,
+) -> Result<(), SentBack<u32>>
+    ensures { result ≡ way_of (bad_presence wanted there) (bad_capacity room count) }
 {
-    let (before, _) = walk::through::<Nothing>(front, &mut [])?;
-    let (with, _) = walk::along::<Nothing>(brought, before, &mut [])?;
-    let (after, _) = walk::along::<Nothing>(behind, with, &mut [])?;
-    Ok(after.leaders)
+    if edits::bad_presence(wanted, there) {
+        return Err(Refusal::Presence.into());
+    }
+    if edits::bad_capacity(room, count) {
+        return Err(Refusal::Capacity.into());
+    }
+    Ok(())
 }
 
-// The register of these cards, at the start of a buffer.
+// The register of these cards, at the start of a buffer. Those in front and those behind have passed already, in the walk over the old
+// ones; only the card that is brought is still to be answered, behind those in front.
 fn lay(
     front: &[[u8; 24]],
     brought: &[[u8; 24]],
     behind: &[[u8; 24]],
+    before: Running,
+    after: Leaders,
     own: &mut [u8],
 ) -> Result<usize, SentBack<u32>>
-    requires { (length front.now + (length brought.now + length behind.now) ≤ 2000) × (11 + 24 * (length front.now + (length brought.now + length behind.now)) ≤ length own.old) }
+    requires few { length front.now + (length brought.now + length behind.now) ≤ 2000 }
+    requires roomy { 11 + 24 * (length front.now + (length brought.now + length behind.now)) ≤ length own.old }
+    requires known { Known front.now brought.now behind.now before after }
     ensures value { result ≡ length_of (register_with (front.now ++ (brought.now ++ behind.now))) }
     ensures laid { LaidIn own.new (11 + 24 * (length front.now + (length brought.now + length behind.now))) (register_with (front.now ++ (brought.now ++ behind.now))) }
 {
-    let leaders = leaders_of(front, brought, behind)?;
+    let with = edit_walk::part(brought, before)?;
+    let leaders = edit_walk::merge(before.leaders, edit_walk::merge(with.leaders, after));
     let count = front.len() + (brought.len() + behind.len());
     let mut written = Writer { bytes: own, at: 0 };
     edits::put_header(&mut written, count, cards::distances_of(leaders));
@@ -49,30 +58,30 @@ fn lay(
     Ok(written.at)
 }
 
-// The register as it would then be, of the cards of one that was accepted: 19 and 20 come before the new card is looked at.
+// The register as it would then be, of the cards of one with a good header: their own refusals and a wrong stored distance come first, then
+// 19 and 20, before the new card is looked at.
 fn change(
     cards: &[[u8; 24]],
+    stored: Option<Stored>,
     number: u32,
     wanted: bool,
     brought: &[[u8; 24]],
     room: usize,
     own: &mut [u8],
 ) -> Result<usize, SentBack<u32>>
-    requires { AllPass cards.now × (length cards.now ≤ 2000) × (length brought.now ≤ 1) × (48_011 ≤ length own.old) }
-    ensures value { result ≡ length_of (changed number wanted brought.now cards.now room) }
-    ensures laid { LaidIn own.new room (changed number wanted brought.now cards.now room) }
+    requires { (length cards.now ≤ 2000) × (35 + 24 * length cards.now ≤ length own.old) × Brings number brought.now }
+    ensures value { result ≡ length_of (change_of stored number wanted brought.now cards.now room) }
+    ensures laid { LaidIn own.new room (change_of stored number wanted brought.now cards.now room) }
 {
-    let (front, behind) = edits::around(cards, number);
-    if edits::bad_presence(wanted, front.len() + behind.len() < cards.len()) {
-        return Err(Refusal::Presence.into());
-    }
-    if edits::bad_capacity(room, front.len() + (brought.len() + behind.len())) {
-        return Err(Refusal::Capacity.into());
-    }
-    lay(front, brought, behind, own)
+    let (front, named, behind) = edits::around(cards, number);
+    let (before, after) = edit_walk::walk_around(front, named, behind, stored)?;
+    let there = front.len() + behind.len() < cards.len();
+    let count = front.len() + (brought.len() + behind.len());
+    in_the_way(wanted, there, room, count)?;
+    lay(front, brought, behind, before, after, own)
 }
 
-// The register as it would then be, of one that a buffer starts with: its own refusals come first.
+// The register as it would then be, of one that a buffer starts with.
 fn change_held(
     buffer: &[u8],
     number: u32,
@@ -80,33 +89,52 @@ fn change_held(
     brought: &[[u8; 24]],
     own: &mut [u8],
 ) -> Result<usize, SentBack<u32>>
-    requires { (length brought.now ≤ 1) × (48_011 ≤ length own.old) }
+    requires { Ready (held buffer.now) (length own.old) × Brings number brought.now }
     ensures value { result ≡ length_of (register_by number wanted brought.now buffer.now) }
     ensures laid { LaidIn own.new (length buffer.now) (register_by number wanted brought.now buffer.now) }
 {
     let register = edits::held(buffer);
-    register::outcome_of(register, header::ENOUGH)?;
     let cards = header::cards_of(register);
-    change(cards, number, wanted, brought, buffer.len(), own)
+    let stored = header::stored_of(register);
+    change(cards, stored, number, wanted, brought, buffer.len(), own)
 }
 
-// Any edit: the new register takes the place of the old one, with zeros behind it.
+// An edit by way of a buffer of this length: the new register takes the place of the old one, with zeros behind it.
 #[tactic(auto, using(crate::proofs::Stages::fits_most, crate::proofs::Stages::fits_own, crate::proofs::Stages::left_laid, crate::proofs::Stages::left_refused))]
+fn edit_by<const ROOM: usize>(
+    buffer: &mut [u8],
+    number: u32,
+    wanted: bool,
+    brought: &[[u8; 24]],
+) -> Result<usize, SentBack<u32>>
+    requires { (ROOM ≤ 48_035) × Ready (held buffer.old) ROOM × Brings number brought.now }
+    ensures value { result ≡ length_of (register_by number wanted brought.now buffer.old) }
+    ensures buffer_after { buffer.new ≡ left_by (register_by number wanted brought.now buffer.old) buffer.old }
+{
+    let mut own = [0u8; ROOM];
+    let size = change_held(buffer, number, wanted, brought, &mut own)?;
+    buffer[..size].copy_from_slice(&own[..size]);
+    buffer[size..].fill(0);
+    Ok(size)
+}
+
+// Any edit. A short register has a short buffer of the code's own: to clear the long one, with room for a card more than a register may
+// have, costs about as much as the walk over a dozen cards.
 fn edit(
     buffer: &mut [u8],
     number: u32,
     wanted: bool,
     brought: &[[u8; 24]],
 ) -> Result<usize, SentBack<u32>>
-    requires { length brought.now ≤ 1 }
+    requires { Brings number brought.now }
     ensures value { result ≡ length_of (register_by number wanted brought.now buffer.old) }
     ensures buffer_after { buffer.new ≡ left_by (register_by number wanted brought.now buffer.old) buffer.old }
 {
-    let mut own = [0u8; 48_011];
-    let size = change_held(buffer, number, wanted, brought, &mut own)?;
-    buffer[..size].copy_from_slice(&own[..size]);
-    buffer[size..].fill(0);
-    Ok(size)
+    let count = header::header_of(edits::held(buffer), header::ENOUGH)?;
+    if count <= 40 {
+        return edit_by::<1_024>(buffer, number, wanted, brought);
+    }
+    edit_by::<48_035>(buffer, number, wanted, brought)
 }
 
 // Adds a card, at its place by number.

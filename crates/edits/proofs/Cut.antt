@@ -1,16 +1,16 @@
 -- The cards around a number: what the code finds are the cards below it and those above it, and the number is there where these are
 -- not all.
 -- Assumes nothing.
-use Rattle.std.specs.Prelude.{ℕ, suc, ◌+◌, ◌≤◌, ◌<◌, ◌≡◌, refl, Bool, true, false, not, List, [], ◌∷◌, map, length, take, drop, get_or, ltb, eqb}
-use Rattle.std.proofs.Common.{arith, zero-le, ◌∙◌, sym, ap, ap₂, ltb-true, ltb-false, eqb-true, lt-ltb, le-ltb}
+use Rattle.std.specs.Prelude.{ℕ, suc, ◌+◌, ◌≤◌, ◌<◌, ◌≡◌, refl, Bool, true, false, List, [], ◌∷◌, ◌++◌, map, length, take, drop, get_or, ltb, eqb}
+use Rattle.std.proofs.Common.{arith, ◌∙◌, sym, ap, ap₂, ltb-true, ltb-false, eqb-true, lt-ltb, le-ltb, take-append-drop}
 use Rattle.std.proofs.lemmas.Bool.{eqb-false}
 use Rattle.std.proofs.lemmas.List.{get_or-map, length-map}
 use Rattle.search.specs.Rising.{first_at_least}
 use Rattle.std.proofs.lemmas.Bool.Decides.{nat_tests}
 use Rattle.search.specs.Places.{either}
 use Rattle.edits.specs.Edits.{card_number, keep_if, below, above, is_there}
-use Rattle.search.specs.Laws.{first_on, first_here, first_unique}
-use Rattle.edits.specs.Around.{AllPass, place_of, without}
+use Rattle.search.specs.Laws.{first_on, first_here, first_unique, first_within}
+use Rattle.edits.specs.Around.{AllPass, place_of, one_if, named_in}
 use Rattle.edits.proofs.Rising.{Rising, no_more, higher, passes, rising}
 
 -- the one place with lower numbers before it, and itself not lower or the end
@@ -42,11 +42,14 @@ above_all n h no_more = refl
 above_all n h (higher {last} {card} {rest} l r) =
     ap₂ (λ b (cs : List (List ℕ)). keep_if b card cs) (lt-ltb n (card_number card) (omega arith)) (above_all n (omega arith) r)
 
+-- the cards behind the one that is named, or all of them
+abbrev behind : ℕ → List (List ℕ) → List (List ℕ)
+behind n cards = drop (named_in n cards) cards
+
 -- the cards of a list with rising numbers, cut at the place
 record Cut (n : ℕ) (cards : List (List ℕ)) : Type 0 where
   low : take (place_of n cards) cards ≡ below n cards
-  high : without n (drop (place_of n cards) cards) ≡ above n cards
-  short : place_of n cards ≤ length cards
+  high : behind n (drop (place_of n cards) cards) ≡ above n cards
 
 module _ (n : ℕ) (card : List ℕ) (rest : List (List ℕ)) where
   cut_lower : card_number card < n → Cut n rest → Cut n (card ∷ rest)
@@ -57,22 +60,20 @@ module _ (n : ℕ) (card : List ℕ) (rest : List (List ℕ)) where
       let u : place_of n (card ∷ rest) ≡ suc (place_of n rest) = first_on n (card_number card) (map card_number rest) h in
       record {
         low = ap (λ i. take i (card ∷ rest)) u ∙ (ap (λ (cs : List (List ℕ)). card ∷ cs) s.low ∙ sym (ap (λ b. keep_if b card (below n rest)) t));
-        high = ap (λ i. without n (drop i (card ∷ rest))) u ∙ (s.high ∙ sym (ap (λ b. keep_if b card (above n rest)) f));
-        short = omega (arith, u, s.short);
+        high = ap (λ i. behind n (drop i (card ∷ rest))) u ∙ (s.high ∙ sym (ap (λ b. keep_if b card (above n rest)) f));
       }
 
   cut_here : n ≤ card_number card → Rising (card_number card) rest → Cut n (card ∷ rest)
-  unfolding below above without
+  unfolding below above named_in
   cut_here h r =
       let t = le-ltb (card_number card) n h in
       let u : place_of n (card ∷ rest) ≡ 0 = first_here n (card_number card) (map card_number rest) h in
       record {
         low = ap (λ i. take i (card ∷ rest)) u ∙ sym (ap (λ b. keep_if b card (below n rest)) t ∙ below_none n (omega (arith, h)) r);
-        high = ap (λ i. without n (drop i (card ∷ rest))) u ∙ kept (eqb (card_number card) n) refl;
-        short = omega (arith, u);
+        high = ap (λ i. behind n (drop i (card ∷ rest))) u ∙ kept (eqb (card_number card) n) refl;
       }
     where
-      kept : (b : Bool) → eqb (card_number card) n ≡ b → keep_if (not b) card rest ≡ keep_if (ltb n (card_number card)) card (above n rest)
+      kept : (b : Bool) → eqb (card_number card) n ≡ b → drop (one_if b) (card ∷ rest) ≡ keep_if (ltb n (card_number card)) card (above n rest)
       kept true e =
           let same = eqb-true (card_number card) n e in
           sym (ap (λ b. keep_if b card (above n rest)) (le-ltb n (card_number card) (omega (arith, same))) ∙ above_all n (omega (arith, h)) r)
@@ -84,8 +85,8 @@ module _ (n : ℕ) (card : List ℕ) (rest : List (List ℕ)) where
           higher_than x = omega (arith, h)
 
 cut : {last : ℕ} {cards : List (List ℕ)} (n : ℕ) → Rising last cards → Cut n cards
-unfolding below above without first_at_least
-cut n no_more = record { low = refl; high = refl; short = zero-le }
+unfolding below above named_in first_at_least
+cut n no_more = record { low = refl; high = refl }
 cut n (higher {last} {card} {rest} l r) = go (ltb (card_number card) n) refl (cut n r)
   where
     go : (b : Bool) → ltb (card_number card) n ≡ b → Cut n rest → Cut n (card ∷ rest)
@@ -100,13 +101,25 @@ module _ (n : ℕ) (cards : List (List ℕ)) (p : AllPass cards) where
   unfolding cut_of
   low_is place e = ap (λ i. take i cards) e ∙ cut_of.low
 
-  pub high_is : (place : ℕ) → place ≡ place_of n cards → without n (drop place cards) ≡ above n cards
+  pub high_is : (place named : ℕ) → place ≡ place_of n cards → named ≡ named_in n (drop place cards) → drop named (drop place cards) ≡ above n cards
   unfolding cut_of
-  high_is place e = ap (λ i. without n (drop i cards)) e ∙ cut_of.high
+  high_is place named e f = ap (λ k. drop k (drop place cards)) f ∙ (ap (λ i. behind n (drop i cards)) e ∙ cut_of.high)
 
-  pub place_within : (place : ℕ) → place ≡ place_of n cards → place ≤ length cards
-  unfolding cut_of
-  place_within place e = omega (arith, e, cut_of.short)
+-- the parts are all cards, whether their numbers rise or not
+pub place_within : (n : ℕ) (cards : List (List ℕ)) (place : ℕ) → place ≡ place_of n cards → place ≤ length cards
+place_within n cards place e = omega (arith, e, first_within n (map card_number cards), length-map cards card_number)
+
+pub named_within : (n : ℕ) (cards : List (List ℕ)) (named : ℕ) → named ≡ named_in n cards → named ≤ length cards
+unfolding named_in
+named_within n [] named e = omega (arith, e)
+named_within n (card ∷ rest) named e = go (eqb (card_number card) n) e
+  where
+    go : (b : Bool) → named ≡ one_if b → named ≤ suc (length rest)
+    go true q = omega (arith, q)
+    go false q = omega (arith, q)
+
+pub all_parts : (cards : List (List ℕ)) (place named : ℕ) → take place cards ++ (take named (drop place cards) ++ drop named (drop place cards)) ≡ cards
+all_parts cards place named = ap (λ (rest : List (List ℕ)). take place cards ++ rest) (take-append-drop named (drop place cards)) ∙ take-append-drop place cards
 
 -- the number is there where the cards below it and those above it are not all
 pub there_is : (n : ℕ) (cards : List (List ℕ)) → (ltb (length (below n cards) + length (above n cards)) (length cards) ≡ is_there n cards) × (length (below n cards) + length (above n cards) ≤ length cards)

@@ -1,11 +1,11 @@
 -- The cards around a number, as the code finds them: numbers rise, so the cards before the first that is not below it are those with a
 -- lower number. It serves the proofs.
 -- Assumes nothing.
-use Rattle.std.specs.Prelude.{ℕ, ◌≡◌, not, List, [], ◌∷◌, map, eqb}
+use Rattle.std.specs.Prelude.{ℕ, ◌≡◌, Bool, true, false, List, [], ◌∷◌, map, eqb}
 use Rattle.search.specs.Rising.{first_at_least}
 use Rattle.card.specs.declared.Answer.{Answer}
 use Rattle.cards.specs.Register.{answers, cards_from}
-use Rattle.edits.specs.Edits.{card_number, keep_if}
+use Rattle.edits.specs.Edits.{card_number}
 
 -- cards that are all answered, as those of an accepted register are
 abbrev pub AllPass : List (List ℕ) → Type 0
@@ -15,7 +15,17 @@ AllPass cards = (xs : List Answer) × (cards_from 0 0 cards ≡ answers xs)
 abbrev pub place_of : ℕ → List (List ℕ) → ℕ
 place_of n cards = first_at_least n (map card_number cards)
 
--- the cards from there on, without the first if it has the number
-unfoldable pub without : ℕ → List (List ℕ) → List (List ℕ)
-without n [] = []
-without n (card ∷ rest) = keep_if (not (eqb (card_number card) n)) card rest
+-- how many cards of a number stand in front: the one that is named, or none
+abbrev pub one_if : Bool → ℕ
+one_if true = 1
+one_if false = 0
+
+unfoldable pub named_in : ℕ → List (List ℕ) → ℕ
+named_in n [] = 0
+named_in n (card ∷ rest) = one_if (eqb (card_number card) n)
+
+-- what an edit of a number brings: no card, or one of that number
+abbrev pub Brings : ℕ → List (List ℕ) → Type 0
+Brings n [] = Unit {0}
+Brings n (card ∷ []) = card_number card ≡ n
+Brings n (card ∷ other ∷ rest) = ⊥

@@ -2,11 +2,11 @@
 // buffer changes: the register that the buffer starts with, the cards around a number, what is in the way, and a register's bytes.
 #![tactic(auto)]
 
-ghost use Rattle.std.specs.Prelude.{◌≡◌, ◌+◌, ◌*◌, ◌≤◌, length};
+ghost use Rattle.std.specs.Prelude.{◌≡◌, ◌+◌, ◌*◌, ◌≤◌, ◌++◌, length};
 ghost use Rattle.std.specs.List.{concat};
 ghost use Rattle.buffer.specs.Puts.{Room, Puts};
 ghost use Rattle.edits.specs.Edits.{card_number, below, above, bad_presence, bad_capacity, header_bytes, held};
-ghost use Rattle.edits.specs.Around.{AllPass, place_of, without};
+ghost use Rattle.edits.specs.Around.{AllPass, place_of, named_in};
 
 use buffer::Writer;
 use header::Stored;
@@ -37,26 +37,31 @@ fn place_of(cards: &[[u8; 24]], number: u32) -> usize
         .unwrap_or(cards.len())
 }
 
-// Cards without the first if it has the number.
-#[tactic(auto, unfolding(crate::specs::Around::without))]
-fn without(cards: &[[u8; 24]], number: u32) -> &[[u8; 24]]
-    ensures { result.now ≡ without number cards.now }
+// How many cards of a number stand in front, of cards whose numbers rise: one or none.
+#[tactic(auto, unfolding(crate::specs::Around::named_in))]
+fn named_in(cards: &[[u8; 24]], number: u32) -> usize
+    ensures { result ≡ named_in number cards.now }
 {
     match cards {
-        [card, rest @ ..] if number_of(card) == number => rest,
-        _ => cards,
+        [card, ..] if number_of(card) == number => 1,
+        _ => 0,
     }
 }
 
-// The cards below a number and those above it, of cards whose numbers rise.
-#[tactic(auto, using(crate::proofs::Cut::place_within, crate::proofs::Cut::low_is, crate::proofs::Cut::high_is))]
-pub fn around(cards: &[[u8; 24]], number: u32) -> (&[[u8; 24]], &[[u8; 24]])
-    requires { AllPass cards.now }
-    ensures low { result.0.now ≡ below number cards.now }
-    ensures high { result.1.now ≡ above number cards.now }
+// Cards around a number: those in front of it, the one that is named and those behind, which are all. Where the numbers rise they are the
+// lower ones, the one of that number if it is there, and the higher ones.
+#[tactic(auto, using(crate::proofs::Cut::place_within, crate::proofs::Cut::named_within, crate::proofs::Cut::all_parts, crate::proofs::Cut::low_is, crate::proofs::Cut::high_is))]
+pub fn around(
+    cards: &[[u8; 24]],
+    number: u32,
+) -> (&[[u8; 24]], &[[u8; 24]], &[[u8; 24]])
+    ensures all { result.0.now ++ (result.1.now ++ result.2.now) ≡ cards.now }
+    ensures low { AllPass cards.now → result.0.now ≡ below number cards.now }
+    ensures high { AllPass cards.now → result.2.now ≡ above number cards.now }
 {
     let (front, rest) = cards.split_at(place_of(cards, number));
-    (front, without(rest, number))
+    let (named, behind) = rest.split_at(named_in(rest, number));
+    (front, named, behind)
 }
 
 // 19: the card of a number has to be there and is not, or must not be there and is.

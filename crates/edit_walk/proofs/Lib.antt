@@ -1,0 +1,3 @@
+pub mod Merging
+pub mod Parts
+pub mod Behind
