@@ -1,2 +1,1 @@
-pub mod Walks
 pub mod Stages

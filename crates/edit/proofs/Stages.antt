@@ -1,6 +1,6 @@
 -- One law for each return of the stages of an edit.
 -- Assumes nothing.
-use Rattle.std.specs.Prelude.{ℕ, ◌+◌, ◌-◌, ◌*◌, ◌≤◌, ◌≡◌, refl, Bool, true, false, List, ◌++◌, length, take, drop, ltb, replicate, Result, Ok, Err}
+use Rattle.std.specs.Prelude.{ℕ, ◌+◌, ◌-◌, ◌*◌, ◌≤◌, ◌≡◌, refl, Bool, true, false, List, [], ◌∷◌, ◌++◌, length, take, drop, ltb, replicate, Option, Result, Ok, Err}
 use Rattle.std.specs.List.{concat}
 use Rattle.std.proofs.Common.{arith, ◌∙◌, sym, ap, ap₂, subst, length-append, take_at}
 use Rattle.std.proofs.lemmas.List.Folds.{concat-append}
@@ -12,21 +12,25 @@ use Rattle.refusals.specs.declared.Refusal.TheVariants as refusal
 use Rattle.refusals.specs.declared.SentBack.{SentBack}
 use Rattle.refusals.specs.Numbers.{refused_at}
 use Rattle.farthest.specs.declared.Leaders.{Leaders}
-use Rattle.card.specs.declared.Answer.{Answer}
 use Rattle.farthest.specs.Farthest.{leaders_of}
 use Rattle.buffer.specs.declared.Writer.{Writer}
 use Rattle.buffer.specs.Puts.{Puts}
 use Rattle.buffer.proofs.Laws.{then, written_first}
 use Rattle.header.specs.declared.Stored.{Stored}
-use Rattle.header.specs.Header.{cards_in, stored_in, header_of, enough, Whole}
+use Rattle.header.specs.Header.{count_of, cards_in, stored_in, header_of, enough, Whole, Fitting}
 use Rattle.header.proofs.Cards.{cards_counted}
+use Rattle.header.proofs.Ends.{header_fitting}
+use Rattle.running.specs.declared.Running.{Running}
 use Rattle.cards.specs.Distances.{distances_of}
-use Rattle.cards.specs.Register.{Cards, answers, sent_back, cards_from, cards_of, result_of, settled, after_header, outcome_of}
-use Rattle.cards.proofs.Laws.{accepted_fits}
+use Rattle.cards.specs.Register.{Cards, answers, sent_back, cards_from, result_of, settled, outcome_of}
+use Rattle.cards.proofs.Laws.{header_refused, header_good, good_header, good_count}
 use Rattle.edits.specs.Edits.{below, above, is_there, with_number, bad_presence, bad_capacity, header_bytes, register_of, laid, register_with, held, unless_bad, changed, after_old, register_by, length_of, left_by}
-use Rattle.edits.specs.Around.{AllPass}
+use Rattle.edits.specs.Around.{AllPass, Brings}
 use Rattle.edits.proofs.Cut.{there_is}
-use Rattle.edit.specs.Laid.{LaidIn}
+use Rattle.edit_walk.specs.Parts.{merged, part_of, Accepted, Walked}
+use Rattle.edit_walk.proofs.Parts.{middle_place, middle_stops, all_on}
+use Rattle.edit_walk.proofs.Behind.{behind_any}
+use Rattle.edit.specs.Laid.{Ready, change_of, way_of, Known, LaidIn}
 
 -- ---- what a stage says of a register that is laid
 
@@ -55,6 +59,13 @@ module _ (own : List ℕ) (most size : ℕ) (x : Result (List ℕ) (SentBack ℕ
           ap (λ n. take n own ++ replicate (length buffer - n) 0) z ∙ ap (λ r. r ++ replicate (length buffer - length register) 0) l.0
       go (Err sent) e l = clash (cc)
 
+-- nothing is laid where something is sent back
+pub sent_length : (x : Result (List ℕ) (SentBack ℕ)) (b : SentBack ℕ) → x ≡ Err b → Err b ≡ length_of x
+sent_length x b e = sym (ap length_of e)
+
+pub sent_laid : (x : Result (List ℕ) (SentBack ℕ)) (b : SentBack ℕ) → x ≡ Err b → (own : List ℕ) (most : ℕ) → LaidIn own most x
+sent_laid x b e own most = subst (LaidIn own most) (sym e) tt
+
 -- a refused edit changes nothing
 pub left_refused : (x : Result (List ℕ) (SentBack ℕ)) (sent : SentBack ℕ) (buffer : List ℕ) → Err sent ≡ length_of x → buffer ≡ left_by x buffer
 left_refused (Ok register) sent buffer e = clash (cc)
@@ -62,33 +73,39 @@ left_refused (Err other) sent buffer e = refl
 
 -- ---- the register of cards
 
-module _ (cards : List (List ℕ)) (x : Result Leaders (SentBack ℕ)) (e : x ≡ result_of (cards_from 0 0 cards)) where
-  sent_with : (sent : SentBack ℕ) → x ≡ Err sent → register_with cards ≡ Err sent
+module _ (cards : List (List ℕ)) where
+  sent_with : (b : SentBack ℕ) → result_of (cards_from 0 0 cards) ≡ Err b → register_with cards ≡ Err b
   unfolding register_with
-  sent_with sent q = go (cards_from 0 0 cards) (sym q ∙ e)
+  sent_with b q = go (cards_from 0 0 cards) q
     where
-      go : (c : Cards) → Err sent ≡ result_of c → laid cards c ≡ Err sent
+      go : (c : Cards) → result_of c ≡ Err b → laid cards c ≡ Err b
       go (answers xs) p = clash (cc)
-      go (sent_back r place) p = let z : sent ≡ refused_at r place = cc in ap Err (sym z)
+      go (sent_back r place) p = let z : refused_at r place ≡ b = cc in ap Err z
 
-  laid_with : (l : Leaders) → x ≡ Ok l → register_with cards ≡ Ok (register_of cards l)
+  laid_with : (l : Leaders) → result_of (cards_from 0 0 cards) ≡ Ok l → register_with cards ≡ Ok (register_of cards l)
   unfolding register_with
-  laid_with l q = go (cards_from 0 0 cards) (sym q ∙ e)
+  laid_with l q = go (cards_from 0 0 cards) q
     where
-      go : (c : Cards) → Ok l ≡ result_of c → laid cards c ≡ Ok (register_of cards l)
+      go : (c : Cards) → result_of c ≡ Ok l → laid cards c ≡ Ok (register_of cards l)
       go (answers xs) p = let z : leaders_of xs ≡ l = cc in ap (λ m. Ok (register_of cards m)) z
       go (sent_back r place) p = clash (cc)
 
-  -- a card is sent back: nothing is laid
-  pub sent_length : (sent : SentBack ℕ) → x ≡ Err sent → Err sent ≡ length_of (register_with cards)
-  sent_length sent q = sym (ap length_of (sent_with sent q))
+-- what is brought is walked over behind the cards in front
+module _ (front brought behind : List (List ℕ)) (t : Running) (l : Leaders) (k : Known front brought behind t l) where
+  pub brought_place : t.place ≡ length front
+  brought_place = middle_place front brought behind t k.0
 
-  pub sent_laid : (sent : SentBack ℕ) → x ≡ Err sent → (own : List ℕ) (most : ℕ) → LaidIn own most (register_with cards)
-  sent_laid sent q own most = subst (LaidIn own most) (sym (sent_with sent q)) tt
+  module _ (x : Result Running (SentBack ℕ)) (e : x ≡ part_of t brought) where
+    pub brought_sent : (b : SentBack ℕ) → x ≡ Err b → register_with (front ++ (brought ++ behind)) ≡ Err b
+    brought_sent b q = sent_with (front ++ (brought ++ behind)) b (middle_stops front brought behind t k.0 b (sym e ∙ q))
+
+    pub brought_on : (u : Running) → x ≡ Ok u → (m n : Leaders) → m ≡ merged u.leaders l → n ≡ merged t.leaders m → result_of (cards_from 0 0 (front ++ (brought ++ behind))) ≡ Ok n
+    brought_on u q m n i j =
+        all_on front brought behind t k.0 u (sym e ∙ q) l (k.1 u (sym e ∙ q))
+        ∙ ap Ok (sym (j ∙ ap (merged t.leaders) i))
 
 -- the header and three lists of cards, one behind the other
-module _ (front brought behind : List (List ℕ)) (x : Result Leaders (SentBack ℕ)) (e : x ≡ result_of (cards_from 0 0 (front ++ (brought ++ behind)))) (l : Leaders) (q : x ≡ Ok l)
-    (d : Stored) (k : d ≡ distances_of l) {w₀ w₁ w₂ w₃ w₄ : Writer} (start : w₀.at ≡ 0)
+module _ (front brought behind : List (List ℕ)) (l : Leaders) (q : result_of (cards_from 0 0 (front ++ (brought ++ behind))) ≡ Ok l) (d : Stored) (k : d ≡ distances_of l) {w₀ w₁ w₂ w₃ w₄ : Writer} (start : w₀.at ≡ 0)
     (header : Puts w₀ w₁ (header_bytes (length front + (length brought + length behind)) d)) (first : Puts w₁ w₂ (concat front)) (second : Puts w₂ w₃ (concat brought)) (third : Puts w₃ w₄ (concat behind)) where
   abbrev all : List (List ℕ)
   all = front ++ (brought ++ behind)
@@ -110,7 +127,7 @@ module _ (front brought behind : List (List ℕ)) (x : Result Leaders (SentBack 
   size_is = let z = put.wrote.place in omega (arith, z, start)
 
   pub laid_length : Ok w₄.at ≡ length_of (register_with all)
-  laid_length = ap Ok size_is ∙ sym (ap length_of (laid_with all x e l q))
+  laid_length = ap Ok size_is ∙ sym (ap length_of (laid_with all l q))
 
   pub laid_there : (own : List ℕ) (most : ℕ) → own ≡ w₄.bytes.now → w₄.at ≤ length w₀.bytes.now → w₄.at ≤ most → LaidIn own most (register_with all)
   laid_there own most held room limit =
@@ -119,7 +136,7 @@ module _ (front brought behind : List (List ℕ)) (x : Result Leaders (SentBack 
       let written : own ≡ text ++ drop (length text) w₀.bytes.now =
       held ∙ (put.wrote.bytes ∙ (ap (λ n. sets w₀.bytes.now n text) start ∙ written_first text w₀.bytes.now fits)) in
       let long : length own ≡ length w₀.bytes.now = ap length held ∙ put.long in
-      subst (LaidIn own most) (sym (laid_with all x e l q)) (
+      subst (LaidIn own most) (sym (laid_with all l q)) (
         ap (take (length text)) written ∙ take_at text (drop (length text) w₀.bytes.now) (length text) refl,
         omega (arith, long, fits),
         omega (arith, limit, size_is),
@@ -127,123 +144,143 @@ module _ (front brought behind : List (List ℕ)) (x : Result Leaders (SentBack 
 
 -- ---- 19 and 20
 
-module _ (n : ℕ) (wanted : Bool) (brought cards : List (List ℕ)) (room : ℕ) (front behind : List (List ℕ)) (f : front ≡ below n cards) (b : behind ≡ above n cards) where
-  there : ltb (length front + length behind) (length cards) ≡ is_there n cards
-  there = ap₂ (λ (u v : List (List ℕ)). ltb (length u + length v) (length cards)) f b ∙ (there_is n cards).0
+abbrev after_way : Result Unit (SentBack ℕ) → Result (List ℕ) (SentBack ℕ) → Result (List ℕ) (SentBack ℕ)
+after_way (Ok u) further = further
+after_way (Err sent) further = Err sent
 
-  all_are : front ++ (brought ++ behind) ≡ with_number n brought cards
-  all_are = ap₂ (λ (u v : List (List ℕ)). u ++ (brought ++ v)) f b
+module _ (n : ℕ) (wanted : Bool) (brought cards : List (List ℕ)) (room : ℕ) (front behind : List (List ℕ)) (f : front ≡ below n cards) (b : behind ≡ above n cards)
+    (x : Result Unit (SentBack ℕ)) (e : x ≡ way_of (bad_presence wanted (ltb (length front + length behind) (length cards))) (bad_capacity room (length front + (length brought + length behind)))) where
+  way : changed n wanted brought cards room ≡ after_way x (register_with (front ++ (brought ++ behind)))
+  unfolding changed
+  way =
+      let there : ltb (length front + length behind) (length cards) ≡ is_there n cards = ap₂ (λ (u v : List (List ℕ)). ltb (length u + length v) (length cards)) f b ∙ (there_is n cards).0 in
+      let all : front ++ (brought ++ behind) ≡ with_number n brought cards = ap₂ (λ (u v : List (List ℕ)). u ++ (brought ++ v)) f b in
+      let count : length front + (length brought + length behind) ≡ length (with_number n brought cards) = omega (arith, length-append front (brought ++ behind), length-append brought behind) ∙ ap length all in
+      go (bad_presence wanted (is_there n cards)) (bad_capacity room (length (with_number n brought cards))) (register_with (with_number n brought cards))
+      ∙ ap₂ after_way (sym (e ∙ ap₂ (λ p c. way_of (bad_presence wanted p) (bad_capacity room c)) there count)) (sym (ap register_with all))
+    where
+      go : (p c : Bool) (further : Result (List ℕ) (SentBack ℕ)) → unless_bad p refusal.Presence (unless_bad c refusal.Capacity further) ≡ after_way (way_of p c) further
+      go true c further = refl
+      go false true further = refl
+      go false false further = refl
 
-  count_is : length front + (length brought + length behind) ≡ length (with_number n brought cards)
-  count_is =
-      omega (arith, length-append front (brought ++ behind), length-append brought behind)
-      ∙ ap length all_are
+  clear : x ≡ Ok tt → bad_capacity room (length front + (length brought + length behind)) ≡ false
+  clear q = go (bad_presence wanted (ltb (length front + length behind) (length cards))) (bad_capacity room (length front + (length brought + length behind))) (sym e ∙ q)
+    where
+      go : (p c : Bool) → way_of p c ≡ Ok tt → c ≡ false
+      go true c h = clash (cc)
+      go false true h = clash (cc)
+      go false false h = refl
 
-  module _ (p : Bool) (e : p ≡ bad_presence wanted (ltb (length front + length behind) (length cards))) where
-    presence : bad_presence wanted (is_there n cards) ≡ p
-    presence = sym (e ∙ ap (bad_presence wanted) there)
+-- ---- the cards around the number
 
-    absent : p ≡ true → changed n wanted brought cards room ≡ Err (refused_at refusal.Presence 0)
-    unfolding changed
-    absent t = ap (λ y. unless_bad y refusal.Presence (unless_bad (bad_capacity room (length (with_number n brought cards))) refusal.Capacity (register_with (with_number n brought cards)))) (presence ∙ t)
+module _ (s : Option Stored) (n : ℕ) (wanted : Bool) (brought cards : List (List ℕ)) (room : ℕ) (front named behind : List (List ℕ)) (a : front ++ (named ++ behind) ≡ cards) where
+  outcome : result_of (settled s (cards_from 0 0 (front ++ (named ++ behind)))) ≡ result_of (settled s (cards_from 0 0 cards))
+  outcome = ap (λ (cs : List (List ℕ)). result_of (settled s (cards_from 0 0 cs))) a
 
-    pub presence_length : p ≡ true → (sent : SentBack ℕ) → sent ≡ refused_at refusal.Presence 0 → Err sent ≡ length_of (changed n wanted brought cards room)
-    presence_length t sent s = ap Err s ∙ sym (ap length_of (absent t))
+  pub counted_parts : length front + (length named + length behind) ≡ length cards
+  counted_parts = let z = ap length a in omega (arith, z, length-append front (named ++ behind), length-append named behind)
 
-    pub presence_laid : p ≡ true → (own : List ℕ) → LaidIn own room (changed n wanted brought cards room)
-    presence_laid t own = subst (LaidIn own room) (sym (absent t)) tt
+  pub old_sent : (b : SentBack ℕ) → result_of (settled s (cards_from 0 0 (front ++ (named ++ behind)))) ≡ Err b → change_of s n wanted brought cards room ≡ Err b
+  old_sent b e = ap (λ y. after_old y (changed n wanted brought cards room)) (sym outcome ∙ e)
 
-    module _ (t : p ≡ false) (r : Bool) (g : r ≡ bad_capacity room (length front + (length brought + length behind))) where
-      capacity : bad_capacity room (length (with_number n brought cards)) ≡ r
-      capacity = sym (g ∙ ap (bad_capacity room) count_is)
+  module _ (low : AllPass cards → front ≡ below n cards) (high : AllPass cards → behind ≡ above n cards) (y : Result (Running × Leaders) (SentBack ℕ)) (walked : Walked s front named behind y)
+      (t : Running) (l : Leaders) (k : y ≡ Ok (t, l)) where
+    w : Accepted s front named behind t l
+    w = subst (Walked s front named behind) k walked
 
-      onward : (y : Bool) → r ≡ y → changed n wanted brought cards room ≡ unless_bad y refusal.Capacity (register_with (with_number n brought cards))
-      unfolding changed
-      onward y h =
-          ap₂ (λ u v. unless_bad u refusal.Presence (unless_bad v refusal.Capacity (register_with (with_number n brought cards)))) (presence ∙ t) (capacity ∙ h)
+    pass : AllPass cards
+    pass = go (cards_from 0 0 cards) refl (sym outcome ∙ w.accepted)
+      where
+        go : (c : Cards) → cards_from 0 0 cards ≡ c → result_of (settled s c) ≡ Ok w.all → AllPass cards
+        go (answers xs) q h = (xs, q)
+        go (sent_back r place) q h = clash (cc)
 
-      pub capacity_length : r ≡ true → (sent : SentBack ℕ) → sent ≡ refused_at refusal.Capacity 0 → Err sent ≡ length_of (changed n wanted brought cards room)
-      capacity_length h sent s = ap Err s ∙ sym (ap length_of (onward true h))
+    pub known : Brings n brought → Known front brought behind t l
+    known b = (w.before, behind_any n cards front brought behind (low pass) (high pass) b t w.before w.with l w.after)
 
-      pub capacity_laid : r ≡ true → (own : List ℕ) → LaidIn own room (changed n wanted brought cards room)
-      capacity_laid h own = subst (LaidIn own room) (sym (onward true h)) tt
+    module _ (x : Result Unit (SentBack ℕ)) (e : x ≡ way_of (bad_presence wanted (ltb (length front + length behind) (length cards))) (bad_capacity room (length front + (length brought + length behind)))) where
+      onward : (y : Result Unit (SentBack ℕ)) → x ≡ y → change_of s n wanted brought cards room ≡ after_way y (register_with (front ++ (brought ++ behind)))
+      onward y q =
+          ap (λ z. after_old z (changed n wanted brought cards room)) (sym outcome ∙ w.accepted)
+          ∙ (way n wanted brought cards room front behind (low pass) (high pass) x e ∙ ap (λ z. after_way z (register_with (front ++ (brought ++ behind)))) q)
 
-      module _ (h : r ≡ false) where
+      pub way_sent : (b : SentBack ℕ) → x ≡ Err b → change_of s n wanted brought cards room ≡ Err b
+      way_sent b q = onward (Err b) q
+
+      module _ (q : x ≡ Ok tt) where
         pub few : length front + (length brought + length behind) ≤ 2_000
         unfolding bad_capacity
-        few = let z = sym g ∙ h in grind (arith, nat_tests, z)
+        few = let z = clear n wanted brought cards room front behind (low pass) (high pass) x e q in grind (arith, nat_tests, z)
 
-        pub roomy : 11 + 24 * (length front + (length brought + length behind)) ≤ room
+        roomy : 11 + 24 * (length front + (length brought + length behind)) ≤ room
         unfolding bad_capacity
-        roomy = let z = sym g ∙ h in grind (arith, nat_tests, z)
+        roomy = let z = clear n wanted brought cards room front behind (low pass) (high pass) x e q in grind (arith, nat_tests, z)
 
-        goes_on : register_with (front ++ (brought ++ behind)) ≡ changed n wanted brought cards room
-        goes_on = ap register_with all_are ∙ sym (onward false h)
+        pub way_length : (y : Result ℕ (SentBack ℕ)) → y ≡ length_of (register_with (front ++ (brought ++ behind))) → y ≡ length_of (change_of s n wanted brought cards room)
+        way_length y h = h ∙ sym (ap length_of (onward (Ok tt) q))
 
-        pub changed_length : (y : Result ℕ (SentBack ℕ)) → y ≡ length_of (register_with (front ++ (brought ++ behind))) → y ≡ length_of (changed n wanted brought cards room)
-        changed_length y w = w ∙ ap length_of goes_on
-
-        pub changed_laid : (own : List ℕ) → LaidIn own (11 + 24 * (length front + (length brought + length behind))) (register_with (front ++ (brought ++ behind))) → LaidIn own room (changed n wanted brought cards room)
-        changed_laid own w = go (register_with (front ++ (brought ++ behind))) goes_on w
+        pub way_laid : (own : List ℕ) → LaidIn own (11 + 24 * (length front + (length brought + length behind))) (register_with (front ++ (brought ++ behind))) → LaidIn own room (change_of s n wanted brought cards room)
+        way_laid own h = go (register_with (front ++ (brought ++ behind))) (sym (onward (Ok tt) q)) h
           where
-            go : (y : Result (List ℕ) (SentBack ℕ)) → y ≡ changed n wanted brought cards room → LaidIn own (11 + 24 * (length front + (length brought + length behind))) y → LaidIn own room (changed n wanted brought cards room)
-            go (Ok register) s v = subst (LaidIn own room) s (v.0, v.1, omega (arith, v.2, roomy))
-            go (Err sent) s v = subst (LaidIn own room) s tt
+            go : (y : Result (List ℕ) (SentBack ℕ)) → y ≡ change_of s n wanted brought cards room → LaidIn own (11 + 24 * (length front + (length brought + length behind))) y → LaidIn own room (change_of s n wanted brought cards room)
+            go (Ok register) i v = subst (LaidIn own room) i (v.0, v.1, omega (arith, v.2, roomy))
+            go (Err sent) i v = subst (LaidIn own room) i tt
 
--- ---- the old register
+-- what an edit brings is one card at most
+pub brings_one : (n : ℕ) (brought : List (List ℕ)) → Brings n brought → length brought ≤ 1
+brings_one n [] b = omega arith
+brings_one n (card ∷ []) b = omega arith
+brings_one n (card ∷ other ∷ rest) b = absurd b
 
--- the cards of an accepted register are all answered
-all_answered : (register : List ℕ) (l : Leaders) → outcome_of register enough ≡ Ok l → AllPass (cards_in register)
-unfolding outcome_of cards_of
-all_answered register l e = go (header_of register enough) e
-  where
-    settle : (c : Cards) → result_of (settled (stored_in register) c) ≡ Ok l → (xs : List Answer) × (c ≡ answers xs)
-    settle (answers xs) q = (xs, refl)
-    settle (sent_back r place) q = clash (cc)
+-- ---- the register that the buffer starts with
 
-    go : (h : Result ℕ Refusal) → after_header h register ≡ Ok l → AllPass (cards_in register)
-    go (Ok n) q = settle (cards_from 0 0 (cards_in register)) q
-    go (Err r) q = clash (cc)
+module _ (n : ℕ) (wanted : Bool) (brought : List (List ℕ)) (buffer : List ℕ) where
+  module _ (register : List ℕ) (r : register ≡ held buffer) (room : ℕ) (h : Ready (held buffer) room) where
+    good : header_of register enough ≡ Ok (count_of register)
+    good = ap (λ y. header_of y enough) r ∙ (h.0 ∙ ap (λ y. Ok (count_of y)) (sym r))
 
-module _ (n : ℕ) (wanted : Bool) (brought : List (List ℕ)) (buffer register : List ℕ) (r : register ≡ held buffer) (x : Result Leaders (SentBack ℕ)) (e : x ≡ outcome_of register enough) where
-  outcome : outcome_of (held buffer) enough ≡ x
-  outcome = sym (e ∙ ap (λ y. outcome_of y enough) r)
-
-  module _ (sent : SentBack ℕ) (q : x ≡ Err sent) where
-    stays : register_by n wanted brought buffer ≡ Err sent
-    unfolding register_by
-    stays = ap (λ y. after_old y (changed n wanted brought (cards_in (held buffer)) (length buffer))) (outcome ∙ q)
-
-    pub old_length : Err sent ≡ length_of (register_by n wanted brought buffer)
-    old_length = sym (ap length_of stays)
-
-    pub old_laid : (own : List ℕ) → LaidIn own (length buffer) (register_by n wanted brought buffer)
-    old_laid own = subst (LaidIn own (length buffer)) (sym stays) tt
-
-  module _ (l : Leaders) (q : x ≡ Ok l) where
-    accepted : outcome_of register enough ≡ Ok l
-    accepted = sym e ∙ q
-
-    pub old_whole : Whole register
-    old_whole = (accepted_fits register enough l accepted).whole
+    pub held_whole : Whole register
+    held_whole = good_header register enough (header_of register enough) refl (count_of register) good
 
     module _ (cards : List (List ℕ)) (c : cards ≡ cards_in register) where
-      pub old_few : length cards ≤ 2_000
-      old_few =
-          let f = accepted_fits register enough l accepted in
-          omega (arith, ap length c, cards_counted register, f.cards)
+      pub held_few : length cards ≤ 2_000
+      held_few = good_count register enough (header_of register enough) refl (count_of register) good cards c
 
-      pub old_pass : AllPass cards
-      old_pass = subst AllPass (sym c) (all_answered register l accepted)
+      pub held_room : 35 + 24 * length cards ≤ room
+      held_room = let z : length cards ≡ count_of (held buffer) = ap length c ∙ (cards_counted register ∙ ap count_of r) in omega (arith, z, h.1)
 
-      goes : changed n wanted brought cards (length buffer) ≡ register_by n wanted brought buffer
-      unfolding register_by
-      goes =
-          ap (λ (cs : List (List ℕ)). changed n wanted brought cs (length buffer)) (c ∙ ap cards_in r)
-          ∙ sym (ap (λ y. after_old y (changed n wanted brought (cards_in (held buffer)) (length buffer))) (outcome ∙ q))
+      module _ (s : Option Stored) (d : s ≡ stored_in register) where
+        held_is : change_of s n wanted brought cards (length buffer) ≡ register_by n wanted brought buffer
+        unfolding register_by
+        held_is =
+            ap₂ after_old
+            (header_good register enough (header_of register enough) refl (count_of register) good cards c s d (result_of (settled s (cards_from 0 0 cards))) refl
+            ∙ ap (λ y. outcome_of y enough) r)
+            (ap (λ (cs : List (List ℕ)). changed n wanted brought cs (length buffer)) (c ∙ ap cards_in r))
 
-      pub held_length : (y : Result ℕ (SentBack ℕ)) → y ≡ length_of (changed n wanted brought cards (length buffer)) → y ≡ length_of (register_by n wanted brought buffer)
-      held_length y w = w ∙ ap length_of goes
+        pub held_length : (y : Result ℕ (SentBack ℕ)) → y ≡ length_of (change_of s n wanted brought cards (length buffer)) → y ≡ length_of (register_by n wanted brought buffer)
+        held_length y w = w ∙ ap length_of held_is
 
-      pub held_laid : (own : List ℕ) → LaidIn own (length buffer) (changed n wanted brought cards (length buffer)) → LaidIn own (length buffer) (register_by n wanted brought buffer)
-      held_laid own w = subst (LaidIn own (length buffer)) goes w
+        pub held_laid : (own : List ℕ) → LaidIn own (length buffer) (change_of s n wanted brought cards (length buffer)) → LaidIn own (length buffer) (register_by n wanted brought buffer)
+        held_laid own w = subst (LaidIn own (length buffer)) held_is w
+
+-- its header
+module _ (buffer register : List ℕ) (r : register ≡ held buffer) (x : Result ℕ Refusal) (e : x ≡ header_of register enough) where
+  header : x ≡ header_of (held buffer) enough
+  header = e ∙ ap (λ y. header_of y enough) r
+
+  pub header_sent : (n : ℕ) (wanted : Bool) (brought : List (List ℕ)) (f : Refusal) → x ≡ Err f → register_by n wanted brought buffer ≡ Err (refused_at f 0)
+  unfolding register_by
+  header_sent n wanted brought f q =
+      ap (λ y. after_old y (changed n wanted brought (cards_in (held buffer)) (length buffer))) (sym (header_refused (held buffer) enough x header f q))
+
+  module _ (count : ℕ) (q : x ≡ Ok count) where
+    fits : Fitting (held buffer) enough count
+    fits = header_fitting (held buffer) enough count (sym header ∙ q)
+
+    pub count_most : count ≤ 2_000
+    count_most = fits.cards
+
+    pub ready : (room : ℕ) → 35 + 24 * count ≤ room → Ready (held buffer) room
+    ready room h = (sym header ∙ q ∙ ap Ok fits.counted, let z = fits.counted in omega (arith, z, h))

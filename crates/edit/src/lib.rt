@@ -14,12 +14,7 @@ use refusals::{Refusal, SentBack};
 use running::Running;
 
 // 19, then 20: a card of the number is not there or must not be, or the register has no room.
-fn in_the_way(
-    wanted: bool,
-    there: bool,
-    room: usize,
-    count: usize,
-) -> Result<(), SentBack<u32>>
+fn in_the_way(wanted: bool, there: bool, room: usize, count: usize) -> Result<(), SentBack<u32>>
     ensures { result ≡ way_of (bad_presence wanted there) (bad_capacity room count) }
 {
     if edits::bad_presence(wanted, there) {

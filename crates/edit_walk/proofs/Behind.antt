@@ -1,12 +1,10 @@
 -- The cards behind a number come to the same behind what an edit of that number brings: the numbers in front of them stay lower.
 -- Assumes nothing.
-use Rattle.std.specs.Prelude.{ℕ, ◌≤◌, ◌<◌, ◌≡◌, refl, Bool, true, false, List, [], ◌∷◌, ltb, Result, Ok, Err}
+use Rattle.std.specs.Prelude.{ℕ, ◌≤◌, ◌<◌, ◌≡◌, refl, Bool, true, false, List, [], ◌∷◌, ltb, Ok}
 use Rattle.std.proofs.Common.{arith, zero-le, ◌∙◌, sym, ap, subst, ltb-true}
-use Rattle.refusals.specs.declared.SentBack.{SentBack}
 use Rattle.search.specs.Laws.{clash}
 use Rattle.card.specs.declared.Answer.{Answer}
 use Rattle.farthest.specs.declared.Leaders.{Leaders}
-use Rattle.farthest.specs.Farthest.{leaders_of}
 use Rattle.running.specs.declared.Running.{Running}
 use Rattle.running.specs.Running.{before_cards, after_card, running_after}
 use Rattle.cards.specs.Register.{Cards, answers, sent_back, cards_from, result_of}

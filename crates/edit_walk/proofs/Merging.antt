@@ -1,12 +1,11 @@
 -- The leads of cards that stand one behind the other are those of the two parts, merged.
 -- Assumes nothing.
-use Rattle.std.specs.Prelude.{ℕ, ◌≤◌, ◌<◌, ◌≡◌, refl, Bool, true, false, List, [], ◌∷◌, ◌++◌, ltb, Option, Some, None}
+use Rattle.std.specs.Prelude.{◌≡◌, refl, Bool, true, false, List, [], ◌∷◌, ◌++◌, ltb, Option, Some, None}
 use Rattle.std.proofs.Common.{arith, ◌∙◌, sym, ap, ap₂, ltb-true, ltb-false, lt-ltb, le-ltb}
 use Rattle.card.specs.declared.Class.{Class}
 use Rattle.card.specs.declared.Class.TheVariants as class
 use Rattle.card.specs.declared.Answer.{Answer}
 use Rattle.farthest.specs.declared.Leader.{Leader}
-use Rattle.farthest.specs.declared.Leaders.{Leaders}
 use Rattle.farthest.specs.Farthest.{leader, pick, farther, in_class, lead_in, farthest_from, farthest_of, leaders_of}
 use Rattle.farthest.proofs.Laws.{from_append, leaders_toxic, leaders_flammable}
 use Rattle.edit_walk.specs.Parts.{merged_lead, merged}

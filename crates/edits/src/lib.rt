@@ -51,10 +51,7 @@ fn named_in(cards: &[[u8; 24]], number: u32) -> usize
 // Cards around a number: those in front of it, the one that is named and those behind, which are all. Where the numbers rise they are the
 // lower ones, the one of that number if it is there, and the higher ones.
 #[tactic(auto, using(crate::proofs::Cut::place_within, crate::proofs::Cut::named_within, crate::proofs::Cut::all_parts, crate::proofs::Cut::low_is, crate::proofs::Cut::high_is))]
-pub fn around(
-    cards: &[[u8; 24]],
-    number: u32,
-) -> (&[[u8; 24]], &[[u8; 24]], &[[u8; 24]])
+pub fn around(cards: &[[u8; 24]], number: u32) -> (&[[u8; 24]], &[[u8; 24]], &[[u8; 24]])
     ensures all { result.0.now ++ (result.1.now ++ result.2.now) ≡ cards.now }
     ensures low { AllPass cards.now → result.0.now ≡ below number cards.now }
     ensures high { AllPass cards.now → result.2.now ≡ above number cards.now }

@@ -1,23 +1,31 @@
--- `edit::lay` meets its contract: nothing is laid of cards that are sent back, and else their register stands at the start of the buffer.
+-- `edit::lay` meets its contract: nothing is laid where the card that is brought is sent back, and else the register stands at the start
+-- of the buffer.
 -- Assumes nothing.
-use Rattle.std.proofs.Common.{rules}
-use Rattle.edit.proofs.Stages.{sent_length, sent_laid, laid_length, laid_there}
+use Rattle.std.proofs.Common.{arith, rules}
+use Rattle.edit.proofs.Stages.{sent_length, sent_laid, brought_place, brought_sent, brought_on, laid_length, laid_there}
 use Rattle.edit.proofs.lay.Goals as goal
 
-pub returns-in_err-leaders-clause-value : goal.returns-in_err-leaders-clause-value
-returns-in_err-leaders-clause-value c =
-    let q = c.in_err-leaders.was {u = tt} in
-    let z = sent_length _ c.leaders_of.result c.leaders_of.ensures _ q in search (z, rules)
+pub part-requires : goal.part-requires
+part-requires c = let z = brought_place c.args.front.now c.args.brought.now c.args.behind.now _ _ c.requires.known in omega (arith, z, c.requires.few)
 
-pub returns-in_err-leaders-clause-laid : goal.returns-in_err-leaders-clause-laid
-returns-in_err-leaders-clause-laid c = let q = c.in_err-leaders.was {u = tt} in search (sent_laid, q, rules)
+pub returns-in_err-with-clause-value : goal.returns-in_err-with-clause-value
+returns-in_err-with-clause-value c =
+    let q = c.in_err-with.was {u = tt} in
+    let z = sent_length _ _ (brought_sent c.args.front.now c.args.brought.now c.args.behind.now _ _ c.requires.known c.part.result c.part.ensures _ q) in search (z, rules)
+
+pub returns-in_err-with-clause-laid : goal.returns-in_err-with-clause-laid
+returns-in_err-with-clause-laid c =
+    let q = c.in_err-with.was {u = tt} in
+    let z = sent_laid _ _ (brought_sent c.args.front.now c.args.brought.now c.args.behind.now _ _ c.requires.known c.part.result c.part.ensures _ q) in search (z, rules)
 
 pub returns-clause-value : goal.returns-clause-value
 returns-clause-value c =
-    let q = c.in_ok-leaders.was {u = tt} in
-    laid_length c.args.front.now c.args.brought.now c.args.behind.now c.leaders_of.result (search rules) _ q _ c.distances_of.ensures (search rules) c.put_header.ensures.wrote c.put_cards.ensures.wrote c.put_cards-2.ensures.wrote c.put_cards-3.ensures.wrote
+    let q = c.in_ok-with.was {u = tt} in
+    let z = brought_on c.args.front.now c.args.brought.now c.args.behind.now _ _ c.requires.known c.part.result c.part.ensures _ q _ _ c.merge.ensures c.merge-leaders.ensures in
+    laid_length c.args.front.now c.args.brought.now c.args.behind.now _ z _ c.distances_of.ensures (search rules) c.put_header.ensures.wrote c.put_cards.ensures.wrote c.put_cards-2.ensures.wrote c.put_cards-3.ensures.wrote
 
 pub returns-clause-laid : goal.returns-clause-laid
 returns-clause-laid c =
-    let q = c.in_ok-leaders.was {u = tt} in
-    laid_there c.args.front.now c.args.brought.now c.args.behind.now c.leaders_of.result (search rules) _ q _ c.distances_of.ensures (search rules) c.put_header.ensures.wrote c.put_cards.ensures.wrote c.put_cards-2.ensures.wrote c.put_cards-3.ensures.wrote _ _ (search rules) (search rules) (search rules)
+    let q = c.in_ok-with.was {u = tt} in
+    let z = brought_on c.args.front.now c.args.brought.now c.args.behind.now _ _ c.requires.known c.part.result c.part.ensures _ q _ _ c.merge.ensures c.merge-leaders.ensures in
+    laid_there c.args.front.now c.args.brought.now c.args.behind.now _ z _ c.distances_of.ensures (search rules) c.put_header.ensures.wrote c.put_cards.ensures.wrote c.put_cards-2.ensures.wrote c.put_cards-3.ensures.wrote _ _ (search rules) (search rules) (search rules)
