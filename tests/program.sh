@@ -26,8 +26,8 @@ done
 slowly examples/document-01.register | "$rings" | diff - examples/document-01.listing
 
 # the longest input that is looked at, and one byte more
-head -c 48007 /dev/zero | "$rings" | diff - <(echo "refused 1 at 0")
-head -c 48008 /dev/zero | "$rings" | diff - <(echo "too long")
+head -c 48011 /dev/zero | "$rings" | diff - <(echo "refused 1 at 0")
+head -c 48012 /dev/zero | "$rings" | diff - <(echo "too long")
 head -c 1000000 /dev/zero >target/long-input
 "$rings" <target/long-input | diff - <(echo "too long")
 "$rings" </dev/null | diff - <(echo "refused 1 at 0")
