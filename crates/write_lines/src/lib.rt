@@ -1,5 +1,5 @@
-// The writer of comma lines: from an accepted register into a lent text, each card as its strict line. The cards are gone
-// through twice, once for the length of the text and once to write it, so that a buffer too short stays as it was.
+// The writer of comma lines: from an accepted register of version 1 into a lent text, each card as its strict line. The cards are
+// gone through twice, once for the length of the text and once to write it, so that a buffer too short stays as it was.
 #![tactic(auto)]
 
 ghost use Rattle.std.specs.Prelude.{◌≡◌, ◌≤◌, map, length};
