@@ -1,2 +1,3 @@
 pub mod Rising
 pub mod Around
+pub mod Lists
