@@ -13,10 +13,10 @@ use Rattle.edits.specs.Edits.{Edit, add, replace, withdraw, card_number, named, 
 
 -- ---- each card has its 24 bytes
 
-sized_none : Sized []
+pub sized_none : Sized []
 sized_none i h = absurd (omega (arith, h))
 
-sized_more : (card : List ℕ) (rest : List (List ℕ)) → length card ≡ 24 → Sized rest → Sized (card ∷ rest)
+pub sized_more : (card : List ℕ) (rest : List (List ℕ)) → length card ≡ 24 → Sized rest → Sized (card ∷ rest)
 sized_more card rest e s zero h = e
 sized_more card rest e s (suc i) h = s i (omega (arith, h))
 
