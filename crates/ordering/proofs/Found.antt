@@ -78,17 +78,24 @@ found bytes room {l} e = header_found (header_of bytes room) e
     header_found (Ok n) q = cards_found (cards_of bytes) refl q
     header_found (Err r) q = clash (cc)
 
-module _ (bytes : List ℕ) (room : ℕ) {l : Leaders} (e : outcome_of bytes room ≡ Ok l) where
-  -- every answer of an accepted register is that of a card of it
-  pub from_card : (i : ℕ) (a : Answer) → At (found bytes room e).list i a → (i < count_of bytes) × (last : ℕ) × (answer_of (card_at bytes i) last ≡ Ok a)
+-- cards of a register that are all answered: every answer is that of a card, and every card has its answer
+module _ (bytes : List ℕ) {xs : List Answer} (e : cards_from 0 0 (cards_in bytes) ≡ answers xs) where
+  pub answer_is_cards : (i : ℕ) (a : Answer) → At xs i a → (i < count_of bytes) × (last : ℕ) × (answer_of (card_at bytes i) last ≡ Ok a)
   unfolding AnswerAt
-  from_card i a h =
-      let r = answers_are 0 0 (cards_in bytes) (found bytes room e).list (found bytes room e).cards i a h in
+  answer_is_cards i a h =
+      let r = answers_are 0 0 (cards_in bytes) xs e i a h in
       (subst (λ n. i < n) (cards_counted bytes) r.0, r.1.0, r.1.1)
 
-  -- every card of an accepted register has its answer
-  pub to_card : (i : ℕ) → i < count_of bytes → (a : Answer) × At (found bytes room e).list i a × (last : ℕ) × (answer_of (card_at bytes i) last ≡ Ok a)
+  pub card_has_answer : (i : ℕ) → i < count_of bytes → (a : Answer) × At xs i a × (last : ℕ) × (answer_of (card_at bytes i) last ≡ Ok a)
   unfolding AnswerAt
-  to_card i h =
-      let r = cards_have 0 0 (cards_in bytes) (found bytes room e).list (found bytes room e).cards i (subst (λ n. i < n) (sym (cards_counted bytes)) h) in
+  card_has_answer i h =
+      let r = cards_have 0 0 (cards_in bytes) xs e i (subst (λ n. i < n) (sym (cards_counted bytes)) h) in
       (r.0, r.1, r.2.0, r.2.1)
+
+-- and so of an accepted register
+module _ (bytes : List ℕ) (room : ℕ) {l : Leaders} (e : outcome_of bytes room ≡ Ok l) where
+  pub from_card : (i : ℕ) (a : Answer) → At (found bytes room e).list i a → (i < count_of bytes) × (last : ℕ) × (answer_of (card_at bytes i) last ≡ Ok a)
+  from_card = answer_is_cards bytes (found bytes room e).cards
+
+  pub to_card : (i : ℕ) → i < count_of bytes → (a : Answer) × At (found bytes room e).list i a × (last : ℕ) × (answer_of (card_at bytes i) last ≡ Ok a)
+  to_card = card_has_answer bytes (found bytes room e).cards

@@ -46,10 +46,10 @@ first_at (x ∷ xs) (suc k) (suc i) a w = let r = first_at xs k i a w in (suc-le
 
 -- ---- one card
 
-same_class : (c d : Class) → kind_of c ≡ kind_of d → c ≡ d
+pub same_class : (c d : Class) → kind_of c ≡ kind_of d → c ≡ d
 same_class c d e = grind arith
 
-distance_is : (card : List ℕ) (last : ℕ) {a : Answer} → answer_of card last ≡ Ok a → distance_of card ≡ a.distance.0
+pub distance_is : (card : List ℕ) (last : ℕ) {a : Answer} → answer_of card last ≡ Ok a → distance_of card ≡ a.distance.0
 unfolding distance_of
 distance_is card last e = ap distance_in (answer_first card last e)
 
