@@ -1,7 +1,7 @@
 -- Cards that pass: each is answered after the number of the one before it, so that the numbers rise.
 -- Assumes nothing.
-use Rattle.std.specs.Prelude.{ℕ, suc, ◌≤◌, ◌<◌, ◌≡◌, refl, List, [], ◌∷◌, Result, Ok, Err}
-use Rattle.std.proofs.Common.{arith, sym, ap, subst}
+use Rattle.std.specs.Prelude.{ℕ, suc, ◌<◌, ◌≡◌, refl, List, [], ◌∷◌, Result, Ok, Err}
+use Rattle.std.proofs.Common.{arith, ap, subst}
 use Rattle.std.proofs.lemmas.Bool.Decides.{nat_tests}
 use Rattle.search.specs.Laws.{clash}
 use Rattle.refusals.specs.declared.Refusal.{Refusal}
@@ -10,7 +10,7 @@ use Rattle.meaning.specs.Reading.{bad_number, meaning_of}
 use Rattle.card.specs.declared.Answer.{Answer}
 use Rattle.card.specs.Answers.{answer_of}
 use Rattle.card.specs.Number.{answer_number}
-use Rattle.cards.specs.Register.{Cards, answers, joined, then, cards_from}
+use Rattle.cards.specs.Register.{answers, joined, then, cards_from}
 use Rattle.cards.proofs.Laws.{joined_is}
 use Rattle.edits.specs.Edits.{card_number}
 
