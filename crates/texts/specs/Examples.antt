@@ -7,9 +7,10 @@ use Rattle.pieces.specs.Pieces.{pieces, closed}
 use Rattle.spaces.specs.Spaces.{skip, chop, bare}
 use Rattle.numerals.specs.Numerals.{read_on, number_in, hyphened, unhyphened, cas_in, heat_in, value_in}
 use Rattle.fields.specs.Layout.{fields_of}
+use Rattle.header.specs.Header.{layout_of, layout_in, cards_in as cards_laid}
 use Rattle.comma.specs.Line.{fields_in, tenths_form, lasts_in, amounts_in, codes_in, line_of}
 use Rattle.comma.specs.Text.{lines_of, cards_from, cards_in, card_bytes, bytes_of, header_bytes, register_of, bad_room, read_into}
-use Rattle.comma.specs.Strict.{cas_text, heat_text, tenths_text, field_texts, strict_line, strict_lines, fields_from}
+use Rattle.comma.specs.Strict.{cas_text, heat_text, tenths_text, field_texts, strict_line, strict_lines}
 use Rattle.comma.specs.Examples.{ascii}
 use Rattle.write_lines.specs.Writing.{fields_of_register, strict_text}
 
@@ -33,5 +34,5 @@ keyed = ascii "1,2,2,0,7782-50-5,2500,0,0,0,11,gate 3\n1, 4, 2, 1, 7726-95-6, 02
 pub three_cards : (strict_text register ≡ strict)
     × (read_into strict (replicate 81 170) ≡ register ++ (170 ∷ 170 ∷ []))
     × (read_into keyed (replicate 81 170) ≡ register ++ (170 ∷ 170 ∷ []))
-unfolding ascii register strict keyed two_bytes four_bytes digits padded read_from pieces closed skip chop bare read_on number_in hyphened unhyphened cas_in heat_in value_in fields_of fields_in tenths_form lasts_in amounts_in codes_in line_of lines_of cards_from cards_in card_bytes bytes_of header_bytes register_of bad_room read_into cas_text heat_text tenths_text field_texts strict_line strict_lines fields_from fields_of_register strict_text
+unfolding ascii register strict keyed two_bytes four_bytes digits padded read_from pieces closed skip chop bare read_on number_in hyphened unhyphened cas_in heat_in value_in fields_of fields_in tenths_form lasts_in amounts_in codes_in line_of lines_of cards_from cards_in card_bytes bytes_of header_bytes register_of bad_room read_into cas_text heat_text tenths_text field_texts strict_line strict_lines layout_of layout_in cards_laid fields_of_register strict_text
 three_cards = (refl, refl, refl)
