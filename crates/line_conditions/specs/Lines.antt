@@ -1,6 +1,6 @@
--- Document 02, A1: the conditions of 12 and 13, over a text or a register and the place, in the request's words. "12 a line that
--- isn't eleven well-formed fields or is too long, with the first such line's number from 1; 13 the output buffer is too small or
--- there are over 2,000 lines, found last."
+-- Document 02, A1: the conditions of 12 and 13, over a text or a register and the place, in the request's words, and that of the
+-- writer's 2 (A9). "12 a line that isn't eleven well-formed fields or is too long, with the first such line's number from 1; 13 the
+-- output buffer is too small or there are over 2,000 lines, found last."
 -- Assumes nothing.
 use Rattle.std.specs.Prelude.{ℕ, zero, suc, Bool, true, false, not, List, [], ◌∷◌, ◌++◌, ltb, eqb, length, get_or, drop, Option, Some, None, Result, Ok, Err}
 use Rattle.farthest.specs.declared.Leaders.{Leaders}
