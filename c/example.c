@@ -81,7 +81,7 @@ int main(int argc, char **argv) {
         printf("refused %" PRIu64 " at %" PRIu64 "\n", refusal >> 32, refusal & 0xffffffff);
         return 1;
     }
-    size_t cards = (length - RINGS_HEADER_LEN) / RINGS_CARD_LEN;
+    size_t cards = big_endian(bytes + 5, 2);
     for (size_t i = 0; i < cards; i++) print_answer(answers + i * RINGS_ANSWER_LEN);
     print_farthest('T', toxic, "\n");
     print_farthest('F', flammable, "\n");

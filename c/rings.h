@@ -1,7 +1,8 @@
 /*
  * The ring register: worst-case distances of a register of cards, by the tables and Equation C-1 of the EPA's guidance,
- * registers from comma lines and back, the likely distance of a card at a rate that is supplied, and whether a stored answer
- * is old. Six calls, proved in crates/rings_c; link crates/rings_c/out/librings_c.a (written by `rt lib` there).
+ * registers from comma lines and back, the likely distance of a card at a rate that is supplied, whether a stored answer is
+ * old, and cards added to a register, replaced and withdrawn. Nine calls, proved in crates/rings_c; link
+ * crates/rings_c/out/librings_c.a (written by `rt lib` there).
  */
 #ifndef RINGS_H
 #define RINGS_H
@@ -13,15 +14,23 @@
 extern "C" {
 #endif
 
-#define RINGS_HEADER_LEN 7                                                     /* bytes before the first card */
-#define RINGS_CARD_LEN 24                                                      /* bytes of a card */
-#define RINGS_ANSWER_LEN 16                                                    /* bytes of a card's answer */
-#define RINGS_MAX_CARDS 2000                                                   /* cards of the longest register */
-#define RINGS_MAX_LEN (RINGS_HEADER_LEN + RINGS_MAX_CARDS * RINGS_CARD_LEN)    /* its bytes, 48,007 */
-#define RINGS_MAX_LINE 200                                                     /* bytes of a comma line, read */
-#define RINGS_MAX_STRICT_LINE 59                                               /* written, with its line feed */
-#define RINGS_MAX_STRICT_LEN (RINGS_MAX_CARDS * RINGS_MAX_STRICT_LINE)         /* bytes of the lines of any register */
-#define RINGS_MAX_RATE 1000000000                                              /* thousandths that may be supplied */
+#define RINGS_HEADER_LEN 7                                                          /* bytes before the first card */
+#define RINGS_STORED_HEADER_LEN 11                                                  /* the same in version 2 */
+#define RINGS_CARD_LEN 24                                                           /* bytes of a card */
+#define RINGS_ANSWER_LEN 16                                                         /* bytes of a card's answer */
+#define RINGS_MAX_CARDS 2000                                                        /* cards of the longest register */
+#define RINGS_MAX_LEN (RINGS_STORED_HEADER_LEN + RINGS_MAX_CARDS * RINGS_CARD_LEN)  /* its bytes, 48,011 */
+#define RINGS_MAX_LINE 200                                                          /* bytes of a comma line, read */
+#define RINGS_MAX_STRICT_LINE 59                                                    /* written, with its line feed */
+#define RINGS_MAX_STRICT_LEN (RINGS_MAX_CARDS * RINGS_MAX_STRICT_LINE)              /* bytes of the lines of a register */
+#define RINGS_MAX_RATE 1000000000                                                   /* thousandths that may be supplied */
+
+/*
+ * The header of a register, each number big-endian: 4 bytes for its length, 1 for its version, 2 for how many cards.
+ * Version 1 has the cards behind these. Version 2 has first the distances of the farthest cards that rings_answer gives, in
+ * hundredths of a mile, 2 bytes for toxic and 2 for flammable, zero for none. Both versions are taken by every call that
+ * reads a register, but for rings_write_lines; rings_read_lines makes version 1, and an edit version 2.
+ */
 
 /*
  * The state of a card, its byte 1: 1 gas, 2 gas liquefied under pressure, 3 gas liquefied by refrigeration alone,
@@ -38,14 +47,17 @@ extern "C" {
  */
 
 /*
- * Why a register, a text or a card is sent back. 1 to 4 and 13 mean no card, and their place is 0; the place of 12 is
- * the line's number, counted from 1. A card is checked in the order 5, 6, 7, 8, 9, 14, 15 (or 16 in state 5), 10, 11. 17 and
- * 18 are of rings_likely alone.
+ * Why a register, a text or a card is sent back. 1 to 4, 13, 19 and 20 mean no card, and their place is 0; the place of 12
+ * is the line's number, counted from 1. A register is checked in the order 1, 2, 3, 4, its cards in turn, and last 3 once
+ * more, for what version 2 stores; a card in the order 5, 6, 7, 8, 9, 14, 15 (or 16 in state 5), 10, 11. 17 and 18 are of
+ * rings_likely alone, 19 and 20 of edits.
  */
 enum rings_refusal {
-    RINGS_LENGTH = 1,         /* under 7 bytes, or the length field is not register_len */
-    RINGS_VERSION = 2,        /* the version is not 1 */
-    RINGS_COUNT = 3,          /* over 2,000 cards, or register_len is not 7 + 24 x cards */
+    RINGS_LENGTH = 1,         /* under 7 bytes, or the length field is not register_len; in an edit, the length field is
+                                 under 7 or past the buffer */
+    RINGS_VERSION = 2,        /* the version is neither 1 nor 2; for rings_write_lines, it is not 1 */
+    RINGS_COUNT = 3,          /* over 2,000 cards, or a length that is not 7 + 24 x cards, in version 2 11 + 24 x cards; or,
+                                 once every card has passed, a stored distance that is not the farthest card's */
     RINGS_BUFFER = 4,         /* answers_len is under 16 x cards */
     RINGS_NUMBER = 5,         /* a card number is zero or not above the last */
     RINGS_FORM = 6,           /* bytes 0 to 3 are unlisted, or a must-be-zero field is filled */
@@ -60,7 +72,9 @@ enum rings_refusal {
     RINGS_TEMPERATURE = 15,   /* temperature out of range */
     RINGS_CONCENTRATION = 16, /* concentration zero, or above the highest that is printed for the substance */
     RINGS_RATE = 17,          /* the supplied rate is zero or above RINGS_MAX_RATE */
-    RINGS_DURATION = 18       /* the supplied duration is zero */
+    RINGS_DURATION = 18,      /* the supplied duration is zero */
+    RINGS_PRESENCE = 19,      /* no card of that number to replace or withdraw, or one there already to add */
+    RINGS_CAPACITY = 20       /* the buffer cannot hold the register as it would then be, or it would pass 2,000 cards */
 };
 
 /*
@@ -143,10 +157,10 @@ uint64_t rings_read_lines(const uint8_t *text_ptr, size_t text_len,
                           uint64_t *at);
 
 /*
- * Writes an accepted register as comma lines in their one strict form: no spaces, no zeros before a number, an empty
- * remark, a line feed behind every line. Read again they give the same register.
+ * Writes an accepted register of version 1 as comma lines in their one strict form: no spaces, no zeros before a number, an
+ * empty remark, a line feed behind every line. Read again they give the same register.
  *
- * register_ptr   the register's first byte; it is only read.
+ * register_ptr   the register's first byte; it is only read. Version 2 is RINGS_VERSION, right after RINGS_LENGTH.
  * register_len   its length in bytes; no length is too long or too short to be handed in.
  * text_ptr       the first byte of the buffer for the text. Bytes behind the text are left alone.
  * text_len       the buffer's length in bytes; RINGS_MAX_STRICT_LEN is enough for any register.
@@ -197,6 +211,51 @@ uint64_t rings_likely(const uint8_t *card, uint64_t rate, uint32_t minutes,
  * The pointer may not be null and is not kept after the call, which holds no state: threads may call at once.
  */
 uint64_t rings_is_old(const uint8_t *answer);
+
+/*
+ * Adds a card to the register that a lent buffer starts with, at its place by number. The register is then of version 2,
+ * whichever it was, with the distances of its farthest cards in the header; the other cards keep their bytes.
+ *
+ * buffer_ptr     the buffer's first byte. The register starts there, and its length field says where it ends; bytes behind
+ *                it are not looked at, and after an accepted edit they are zeros up to the buffer's end.
+ * buffer_len     the buffer's length in bytes; no length is too long or too short to be handed in. RINGS_MAX_LEN is enough
+ *                for any edit.
+ * card           the first of the card's 24 bytes; they are only read. Its number is the last four of them.
+ * at             set in every case: to the register's length in bytes as it now is, or to the refusal's place.
+ *
+ * Returns 0 if the card is added. A refusal is its number and changes no byte of the buffer, those behind the register
+ * included. First come those of the old register: RINGS_LENGTH where the length field is under 7 or past the buffer, then
+ * those that rings_answer gives, but never RINGS_BUFFER, with the old card's place, counted from 0. Then RINGS_PRESENCE, then
+ * RINGS_CAPACITY. Last the new card's own, in their order, with its place among the cards as they would then be; its
+ * RINGS_NUMBER means the number zero.
+ *
+ * No pointer may be null, not even with a length of 0. The buffer and the word overlap neither each other nor the card.
+ * None is kept after the call, which holds no state: threads may call at once, each with its own buffer and word.
+ */
+uint64_t rings_add(uint8_t *buffer_ptr, size_t buffer_len,
+                   const uint8_t *card,
+                   uint64_t *at);
+
+/*
+ * Replaces the card that has the same number as the one that is handed in. All else of it may change; the same bytes once
+ * more are an edit like any other.
+ *
+ * The rest is as in rings_add. A register of version 1 grows by four bytes, so that this may be RINGS_CAPACITY too.
+ */
+uint64_t rings_replace(uint8_t *buffer_ptr, size_t buffer_len,
+                       const uint8_t *card,
+                       uint64_t *at);
+
+/*
+ * Withdraws the card of a number. Without its last card a register has 11 bytes, no cards and no distances.
+ *
+ * number         the card's number; any may be handed in, zero too, which no card has.
+ *
+ * The rest is as in rings_add, without a new card; and there is always room, so never RINGS_CAPACITY.
+ */
+uint64_t rings_withdraw(uint8_t *buffer_ptr, size_t buffer_len,
+                        uint32_t number,
+                        uint64_t *at);
 
 #ifdef __cplusplus
 }

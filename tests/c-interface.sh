@@ -1,11 +1,11 @@
 #!/usr/bin/env bash
 # Compiles the C programs against the proved archive, which `rt lib` has written. What the example prints is compared with the
 # listings and the leaders, the comma lines of the examples are read into their registers and written from them, likely distances
-# are found, and old answers are told.
+# are found, old answers are told, and registers are edited.
 set -euo pipefail
 cd "$(dirname "$0")/.."
 mkdir -p target
-for program in example lines likely old; do
+for program in example lines likely old edit; do
     gcc -std=c11 -Wall -Wextra -Werror -O2 -Ic "c/$program.c" crates/rings_c/out/librings_c.a -o "target/c-$program"
 done
 
@@ -42,6 +42,11 @@ echo "the C example prints the listings and the leaders of $(ls examples/*.leade
 # lines into the register, the register into lines in strict form, and those into the register again
 for register in examples/*.register; do
     name=${register%.register}
+    # version 2 has no lines
+    if [ ! -e "$name.lines" ]; then
+        refused "refused 2 at 0" target/c-lines write <"$register"
+        continue
+    fi
     target/c-lines read <"$name.lines" | cmp - "$register"
     if [ "$name" = examples/refused ]; then
         refused "$(cat "$name.listing")" target/c-lines write <"$register"
@@ -71,7 +76,7 @@ status=0
 target/c-lines read <examples/document-01.lines >/dev/full 2>target/c-error || status=$?
 test "$status" = 2
 test -s target/c-error
-echo "the C program reads and writes the comma lines of $(ls examples/*.register | wc -l) examples as stored"
+echo "the C program reads and writes the comma lines of $(ls examples/*.lines | wc -l) examples as stored"
 
 # likely distances: the first two fields of a query are what is supplied, the rest is the card's line
 for query in examples/*.query; do
@@ -123,3 +128,69 @@ target/c-old <examples/stored.answers >/dev/full 2>target/c-error || status=$?
 test "$status" = 2
 test -s target/c-error
 echo "the C program tells old answers from those of the equation"
+
+# the edits of the example, one after the other, from document 01's register; refused ones between them change nothing
+before=examples/document-01.register
+after=target/c-edited
+edit() {
+    target/c-edit "$@" <"$after" >"$after.next"
+    mv "$after.next" "$after"
+}
+cp "$before" "$after"
+while read -r word what; do
+    edit "$word" "$what"
+    refused "refused 19 at 0" target/c-edit withdraw 14 <"$after"
+done <examples/edited.edits
+cmp "$after" examples/edited.register
+
+# an edit and its undoing: the cards are as before, and the register is of version 2
+bromine=1,4,2,1,7726-95-6,20000,100,400,250,12,
+edit replace "$bromine"
+edit withdraw 9
+edit add 2,0,0,0,74-98-6,10000,0,0,0,13,
+cmp <(tail -c +12 "$after") <(tail -c +8 "$before")
+target/c-example "$after" | diff - <(cat examples/document-01.listing examples/document-01.leaders)
+refused "refused 2 at 0" target/c-lines write <"$after"
+for number in 11 12 13; do edit withdraw "$number"; done
+cmp "$after" <(printf '\0\0\0\013\002\0\0\0\0\0\0')
+
+# 19 before the new card, the new card at its new place, and the old register before both
+refused "refused 19 at 0" target/c-edit add "${bromine/20000/0}" <"$before"
+refused "refused 19 at 0" target/c-edit replace "${bromine/,12,/,14,}" <"$before"
+refused "refused 19 at 0" target/c-edit withdraw 0 <"$before"
+refused "refused 19 at 0" target/c-edit withdraw 4294967295 <"$before"
+refused "refused 8 at 1" target/c-edit replace "${bromine/20000/0}" <"$before"
+refused "refused 14 at 3" target/c-edit add "${bromine/400,250,12/10001,250,14}" <"$before"
+refused "refused 5 at 0" target/c-edit add "${bromine/,12,/,0,}" <"$before"
+refused "refused 14 at 1" target/c-edit withdraw 1 <examples/refused.register
+refused "refused 3 at 0" target/c-edit withdraw 9 <examples/stale.register
+refused "refused 1 at 0" target/c-edit withdraw 12 </dev/null
+refused "refused 1 at 0" target/c-edit withdraw 12 < <(head -c 78 "$before")
+refused "refused 12 at 1" target/c-edit add "$bromine," <"$before"
+
+# 2,000 cards may be replaced and withdrawn, and no more may be added
+for ((i = 1; i <= 2000; i++)); do echo "2,0,0,0,74-98-6,10000,0,0,0,$i,"; done | target/c-lines read >"$after"
+refused "refused 20 at 0" target/c-edit add 2,0,0,0,74-98-6,10000,0,0,0,2001, <"$after"
+edit replace 2,0,0,0,74-98-6,20000,0,0,0,1000,
+test "$(wc -c <"$after")" = 48011
+refused "refused 20 at 0" target/c-edit add 2,0,0,0,74-98-6,10000,0,0,0,2001, <"$after"
+edit withdraw 1
+edit add 2,0,0,0,74-98-6,10000,0,0,0,2001,
+cmp <(head -c 11 "$after") <(printf '\0\0\273\213\002\007\320\0\0\0\026')
+fails 2 target/c-edit withdraw 2 < <(cat "$after" && echo)
+test -s target/c-error
+
+# what is no edit is said with status 2, and so are errors
+fails 2 target/c-edit <"$before"
+fails 2 target/c-edit withdraw <"$before"
+fails 2 target/c-edit withdraw -1 <"$before"
+fails 2 target/c-edit withdraw 4294967296 <"$before"
+fails 2 target/c-edit drop 12 <"$before"
+fails 2 target/c-edit add "" <"$before"
+fails 2 target/c-edit withdraw 12 <examples
+test -s target/c-error
+status=0
+target/c-edit withdraw 12 <"$before" >/dev/full 2>target/c-error || status=$?
+test "$status" = 2
+test -s target/c-error
+echo "the C program edits registers as stored"

@@ -17,15 +17,22 @@ with hyphens or none; or a word: toxic flammable; gas pressurized refrigerated l
 building shed-with-doors; '-' for zero. Nothing is held against document 01 but the width of a field, so that a register
 can be described that has to be sent back.
 
+    stored T MILES, F MILES
+
+makes it a register of version 2, which stores two distances, right or wrong, with two decimals, or 'none' for zero. Without
+this line it is of version 1.
+
 A file of cases has for each case:
 
     case LABEL       the line that is printed before the result
     room N           a call with an answer buffer of N bytes; without this line, the listing
     cards            as above, 'N * ' before a card stands for N such cards with rising numbers
+    stored ..        as above
     hex BYTES        the register as it is, instead of cards; also 'zeros N'
     = LINE           a line of the result that is expected
 """
 
+import re
 import struct
 import sys
 from pathlib import Path
@@ -78,9 +85,31 @@ def cards(line):
     return [packed([*first[:9], first[9] + i]) for i in range(int(count))]
 
 
-def register(found):
-    body = b"".join(found)
-    return struct.pack(">IBH", 7 + len(body), 1, len(found)) + body
+def hundredths(miles):
+    """A distance as a header stores it, 'none' as zero."""
+    if miles == "none":
+        return 0
+    if not re.fullmatch(r"[0-9]+\.[0-9]{2}", miles):
+        sys.exit(f"miles with two decimals, or none: {miles}")
+    return int(miles.replace(".", ""))
+
+
+def distances(line):
+    """The bytes of the two distances that a line tells."""
+    told = re.fullmatch(r"stored T (\S+), F (\S+)", line)
+    if not told:
+        sys.exit(f"stored T MILES, F MILES: {line}")
+    try:
+        return struct.pack(">HH", *map(hundredths, told.groups()))
+    except struct.error as error:
+        sys.exit(f"{error}: {line}")
+
+
+def register(found, stored=None):
+    """The register of these cards: of version 2 where it stores distances."""
+    version, behind = (1, b"") if stored is None else (2, stored)
+    body = behind + b"".join(found)
+    return struct.pack(">IBH", 7 + len(body), version, len(found)) + body
 
 
 def lines_of(path):
@@ -91,17 +120,31 @@ def lines_of(path):
 
 
 def described(path):
-    return register([one for line in lines_of(path) for one in cards(line)])
+    found, stored = [], None
+    for line in lines_of(path):
+        if line.startswith("stored "):
+            stored = distances(line)
+        else:
+            found += cards(line)
+    return register(found, stored)
+
+
+def miles(stored):
+    return f"{stored // 100}.{stored % 100:02}" if stored else "none"
 
 
 def shown(data):
     """A description of the register that the header announces; what stands behind it is not looked at."""
     length, version, count = struct.unpack(">IBH", data[:7])
-    if (length, version, len(data)) != (7 + 24 * count, 1, 7 + 24 * count):
+    start = {1: 7, 2: 11}.get(version, 0)
+    if start == 0 or not length == len(data) == start + 24 * count:
         sys.exit("this is no register: its length, version or count is wrong")
     names = [{number: word for word, number in words.items()} for words in WORDS]
     text = "# kind state ground containment cas pounds area wall temperature number\n"
-    for at in range(7, length, 24):
+    if version == 2:
+        toxic, flammable = struct.unpack(">HH", data[7:11])
+        text += f"stored T {miles(toxic)}, F {miles(flammable)}\n"
+    for at in range(start, length, 24):
         values = list(unpacked(data[at:at + 24]))
         if values[0] == 2 and values[1:4] == [0, 0, 0]:
             values[1:4] = ["-", "-", "-"]
@@ -117,7 +160,7 @@ def run(path):
     def ended():
         if case is None:
             return b""
-        data = case["raw"] if case["raw"] is not None else register(case["cards"])
+        data = case["raw"] if case["raw"] is not None else register(case["cards"], case["stored"])
         label = case["label"].encode()
         return struct.pack(">H", len(label)) + label + struct.pack(">HH", case["room"], len(data)) + data
 
@@ -128,7 +171,7 @@ def run(path):
             continue
         if word == "case":
             given += ended()
-            case = {"label": rest, "room": LISTING, "cards": [], "raw": None}
+            case = {"label": rest, "room": LISTING, "cards": [], "stored": None, "raw": None}
             expected += f"# {rest}\n"
         elif word == "room":
             case["room"] = int(rest)
@@ -136,6 +179,8 @@ def run(path):
             case["raw"] = bytes.fromhex(rest)
         elif word == "zeros":
             case["raw"] = bytes(int(rest))
+        elif word == "stored":
+            case["stored"] = distances(line)
         elif word == "=":
             expected += f"{rest}\n"
         else:

@@ -80,7 +80,7 @@ fn print_row(way: &Way, lines: usize) {
     let inputs = Inputs::make(way, lines);
     let mut buffer = vec![0; ROOM];
     let text_bytes = inputs.text_bytes(way, &mut buffer) as f64;
-    let (proved, reference) = in_turn(way.proved, way.reference, |convert| pass(&inputs, &mut buffer, convert));
+    let [proved, reference] = in_turn([way.proved, way.reference], |convert| pass(&inputs, &mut buffer, convert));
     let texts = inputs.count();
     let all_lines = (texts * lines) as f64;
     // A byte a nanosecond is a thousand MB a second.

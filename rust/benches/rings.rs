@@ -77,7 +77,7 @@ fn measure(registers: &Registers) -> (f64, f64) {
     let proved: Answer = |register, out| proved::answer(register, out).is_ok();
     let reference: Answer = |register, out| reference::answer(register, out).is_ok();
     let mut buffer = vec![0; ANSWER_LEN * registers.cards];
-    let (proved, reference) = in_turn(proved, reference, |answer| pass(registers, &mut buffer, answer));
+    let [proved, reference] = in_turn([proved, reference], |answer| pass(registers, &mut buffer, answer));
     let count = registers.count() as f64;
     (proved / count, reference / count)
 }

@@ -42,6 +42,9 @@ mod c {
             hundredths: *mut f64,
         ) -> u64;
         pub fn rings_is_old(answer: *const u8) -> u64;
+        pub fn rings_add(buffer_ptr: *mut u8, buffer_len: usize, card: *const u8, at: *mut u64) -> u64;
+        pub fn rings_replace(buffer_ptr: *mut u8, buffer_len: usize, card: *const u8, at: *mut u64) -> u64;
+        pub fn rings_withdraw(buffer_ptr: *mut u8, buffer_len: usize, number: u32, at: *mut u64) -> u64;
     }
 }
 
@@ -139,6 +142,49 @@ pub fn is_old(answer: &[u8; ANSWER_LEN]) -> bool {
     }
 }
 
+/// Adds a card to the register that `buffer` starts with, as [`crate::reference::add`] does.
+pub fn add(buffer: &mut [u8], card: &[u8; CARD_LEN]) -> Result<usize, Refused> {
+    let mut at = 0;
+    let code = add_words(buffer, card, &mut at);
+    converted(code, at)
+}
+
+/// Replaces the card of a card's number, as [`crate::reference::replace`] does.
+pub fn replace(buffer: &mut [u8], card: &[u8; CARD_LEN]) -> Result<usize, Refused> {
+    let mut at = 0;
+    let code = replace_words(buffer, card, &mut at);
+    converted(code, at)
+}
+
+/// Withdraws the card of a number, as [`crate::reference::withdraw`] does.
+pub fn withdraw(buffer: &mut [u8], number: u32) -> Result<usize, Refused> {
+    let mut at = 0;
+    let code = withdraw_words(buffer, number, &mut at);
+    converted(code, at)
+}
+
+/// The call as C sees it, for tests that look at its words: 0 or a refusal's number is returned, and the word is set to
+/// the register's new length or to the refusal's place.
+#[allow(unsafe_code)]
+pub fn add_words(buffer: &mut [u8], card: &[u8; CARD_LEN], at: &mut u64) -> u64 {
+    // SAFETY: as in `answer_words`. The card has the 24 bytes that the library reads.
+    unsafe { c::rings_add(buffer.as_mut_ptr(), buffer.len(), card.as_ptr(), at) }
+}
+
+/// The call as C sees it, with the words of [`add_words`].
+#[allow(unsafe_code)]
+pub fn replace_words(buffer: &mut [u8], card: &[u8; CARD_LEN], at: &mut u64) -> u64 {
+    // SAFETY: as in `add_words`.
+    unsafe { c::rings_replace(buffer.as_mut_ptr(), buffer.len(), card.as_ptr(), at) }
+}
+
+/// The call as C sees it, with the words of [`add_words`].
+#[allow(unsafe_code)]
+pub fn withdraw_words(buffer: &mut [u8], number: u32, at: &mut u64) -> u64 {
+    // SAFETY: as in `answer_words`. The number is any, and names no place.
+    unsafe { c::rings_withdraw(buffer.as_mut_ptr(), buffer.len(), number, at) }
+}
+
 /// An answer's three words: 0 and those of the farthest cards, or a refusal's number × 2^32 + its place.
 fn accepted(code: u64, toxic: u64, flammable: u64) -> Result<Accepted, Refused> {
     match code {
@@ -162,7 +208,7 @@ fn found_of(word: u64) -> Found {
     }
 }
 
-/// A conversion's two words: 0 and the bytes written, which a slice held, or a refusal's number and its place.
+/// The two words of a conversion or an edit: 0 and the bytes written, which a slice held, or a refusal's number and its place.
 fn converted(code: u64, at: u64) -> Result<usize, Refused> {
     match code {
         0 => Ok(at as usize),

@@ -3,12 +3,15 @@
 //! Bytes become cards ([`card`]), a toxic card a release ([`release`]), and a release a distance, read from the printed
 //! tables ([`printed`]); a flammable card's distance comes from an equation ([`blast`]). A toxic card with a rate and a
 //! duration becomes a likely distance ([`likely`]). Comma lines become registers and registers comma lines ([`lines`]).
+//! A register in a lent buffer is edited, card by card ([`edits`]); what its header may be is told by [`header`].
 //! What a rate would be unrounded, and how far above it the reported one may be, is told apart from all this ([`exact`]).
 
 mod blast;
 mod card;
+mod edits;
 mod exact;
 mod fraction;
+mod header;
 mod likely;
 mod lines;
 pub mod printed;
@@ -17,18 +20,19 @@ mod release;
 mod tests;
 mod units;
 
+pub use edits::{add, replace, withdraw};
 pub use exact::{exact_rate, ExactRate};
 pub use fraction::Fraction;
+pub use header::{HEADER_LEN, STORED_HEADER_LEN};
 pub use likely::{likely, Found, Likely};
 pub use lines::{read_lines, write_lines, MAX_LINE, MAX_STRICT_LINE};
 
 use card::{Card, Meaning};
+use header::Register;
 use printed::Printed;
 use std::fmt::Write as _;
 use units::{Miles, PoundsPerMinute};
 
-/// Bytes of a register before its first card.
-pub const HEADER_LEN: usize = 7;
 /// Bytes of a card.
 pub const CARD_LEN: usize = 24;
 /// Bytes of a card's answer.
@@ -36,9 +40,7 @@ pub const ANSWER_LEN: usize = 16;
 /// The most cards a register may have.
 pub const MAX_CARDS: usize = 2_000;
 /// Bytes of the longest register that can be accepted.
-pub const MAX_LEN: usize = HEADER_LEN + MAX_CARDS * CARD_LEN;
-
-const VERSION: u8 = 1;
+pub const MAX_LEN: usize = STORED_HEADER_LEN + MAX_CARDS * CARD_LEN;
 
 /// Where an answer has the number of its table.
 const TABLE_BYTE: usize = 5;
@@ -91,6 +93,8 @@ enum Fault {
     Concentration = 16,
     Rate = 17,
     Duration = 18,
+    Presence = 19,
+    Capacity = 20,
 }
 
 impl Fault {
@@ -109,15 +113,17 @@ impl Fault {
 ///
 /// Bytes of `out` beyond the answers are left alone, and so is all of it on refusal.
 pub fn answer(register: &[u8], out: &mut [u8]) -> Result<Accepted, Refused> {
-    let cards = card_bytes(register)?;
-    let needed = cards.len() / CARD_LEN * ANSWER_LEN;
+    let register = Register::read(register)?;
+    let needed = register.cards.len() / CARD_LEN * ANSWER_LEN;
     let slots = out.get_mut(..needed).ok_or_else(|| Fault::Buffer.of_register())?;
-    // Every card is answered before a byte is written.
-    let answers = answers(cards)?;
+    // Every card is answered, and what is stored is looked at, before a byte is written.
+    let answers = answers(register.cards)?;
+    let farthest = farthest(&answers);
+    register.check_stored(farthest)?;
     for (slot, answer) in slots.chunks_exact_mut(ANSWER_LEN).zip(&answers) {
         slot.copy_from_slice(&answer.bytes());
     }
-    Ok(farthest(&answers))
+    Ok(farthest)
 }
 
 /// The farthest card of each class among the first `cards` cards of a register, or among all where it has no more.
@@ -125,7 +131,7 @@ pub fn answer(register: &[u8], out: &mut [u8]) -> Result<Accepted, Refused> {
 /// The cards behind those are checked too, so a register is refused whatever number is asked for. No answer buffer is
 /// lent, and none can be too short.
 pub fn leaders_after(register: &[u8], cards: usize) -> Result<Accepted, Refused> {
-    let answers = card_bytes(register).and_then(answers)?;
+    let (_, answers) = accepted(register)?;
     let first = &answers[..cards.min(answers.len())];
     Ok(Accepted { toxic: leader(first, Class::Toxic), flammable: leader(first, Class::Flammable) })
 }
@@ -140,28 +146,18 @@ pub fn listing(register: &[u8]) -> String {
     if register.len() > MAX_LEN {
         return "too long\n".to_string();
     }
-    match card_bytes(register).and_then(answers) {
-        Ok(answers) => list(&answers),
+    match accepted(register) {
+        Ok((_, answers)) => list(&answers),
         Err(Refused { number, place }) => format!("refused {number} at {place}\n"),
     }
 }
 
-/// Checks 1 to 3; the bytes behind the header, a whole number of cards.
-fn card_bytes(register: &[u8]) -> Result<&[u8], Refused> {
-    let Some((&[l0, l1, l2, l3, version, c0, c1], cards)) = register.split_first_chunk::<HEADER_LEN>() else {
-        return Err(Fault::Length.of_register());
-    };
-    if u64::from(u32::from_be_bytes([l0, l1, l2, l3])) != register.len() as u64 {
-        return Err(Fault::Length.of_register());
-    }
-    if version != VERSION {
-        return Err(Fault::Version.of_register());
-    }
-    let count = usize::from(u16::from_be_bytes([c0, c1]));
-    if count > MAX_CARDS || cards.len() != count * CARD_LEN {
-        return Err(Fault::Count.of_register());
-    }
-    Ok(cards)
+/// All checks of a register where no answer buffer is lent, and its answers.
+fn accepted(register: &[u8]) -> Result<(Register<'_>, Vec<Answer>), Refused> {
+    let register = Register::read(register)?;
+    let answers = answers(register.cards)?;
+    register.check_stored(farthest(&answers))?;
+    Ok((register, answers))
 }
 
 /// A card's answer, and its class for the ranking.

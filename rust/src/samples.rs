@@ -2,10 +2,11 @@
 //! blasts, and texts.
 
 pub mod blasts;
+pub mod edits;
 pub mod lines;
 
 use crate::reference::printed::{printed, Factor, LiquidFactors, Phase, Plume, Solute, Toxic};
-use crate::reference::{self, ANSWER_LEN, CARD_LEN, HEADER_LEN};
+use crate::reference::{self, Accepted, Farthest, ANSWER_LEN, CARD_LEN, HEADER_LEN, STORED_HEADER_LEN};
 
 /// The most pounds a card may have.
 pub const MAX_POUNDS: u32 = 10_000_000;
@@ -61,6 +62,12 @@ impl Rng {
     /// One of `choices`.
     pub fn pick<'c, T>(&mut self, choices: &'c [T]) -> &'c T {
         &choices[self.below(choices.len() as u64) as usize]
+    }
+
+    /// One of `choices`, to be changed.
+    pub fn pick_mut<'c, T>(&mut self, choices: &'c mut [T]) -> &'c mut T {
+        let place = self.below(choices.len() as u64) as usize;
+        &mut choices[place]
     }
 
     /// A number from 1 to `largest`, small ones as likely as large ones.
@@ -132,6 +139,43 @@ pub fn register_of_bytes(cards: &[[u8; CARD_LEN]]) -> Vec<u8> {
     bytes.extend((cards.len() as u16).to_be_bytes());
     bytes.extend(cards.as_flattened());
     bytes
+}
+
+/// A register of version 2 that stores two distances, toxic then flammable, right or wrong; its header fits the cards.
+pub fn stored_register(cards: &[[u8; CARD_LEN]], distances: [u16; 2]) -> Vec<u8> {
+    let length = STORED_HEADER_LEN + cards.len() * CARD_LEN;
+    let mut bytes = Vec::with_capacity(length);
+    bytes.extend((length as u32).to_be_bytes());
+    bytes.push(2);
+    bytes.extend((cards.len() as u16).to_be_bytes());
+    bytes.extend(distances.map(u16::to_be_bytes).as_flattened());
+    bytes.extend(cards.as_flattened());
+    bytes
+}
+
+/// The same register in version 2, with the distances that the reference finds: none where it refuses the cards.
+pub fn as_version_2(register: &[u8]) -> Vec<u8> {
+    stored_register(cards_of(register), farthest_distances(register))
+}
+
+/// The distances of a register's farthest cards, toxic then flammable: zero for none, and where it is refused.
+pub fn farthest_distances(register: &[u8]) -> [u16; 2] {
+    let Accepted { toxic, flammable } = reference::leaders_after(register, usize::MAX).unwrap_or_default();
+    [toxic, flammable].map(|farthest: Option<Farthest>| farthest.map_or(0, |farthest| farthest.miles))
+}
+
+/// The whole cards behind the header that a register's version has, however many it counts.
+pub fn cards_of(register: &[u8]) -> &[[u8; CARD_LEN]] {
+    let (cards, _) = register.get(header_len(register)..).unwrap_or_default().as_chunks();
+    cards
+}
+
+/// The bytes before a register's first card, as its version says: 7, or 11 in version 2.
+pub fn header_len(register: &[u8]) -> usize {
+    match register.get(4) {
+        Some(2) => STORED_HEADER_LEN,
+        _ => HEADER_LEN,
+    }
 }
 
 /// A register of so many cards that the reference accepts, of all routes and tables.

@@ -394,11 +394,12 @@ fn numbers_of_lines(comparison: &mut Comparison) {
             (card, line)
         })
         .collect();
+    let longest = register_len(MAX_CARDS);
     for _ in 0..ROUNDS_OF_COUNTS {
         for count in [MAX_CARDS - 1, MAX_CARDS, MAX_CARDS + 1, MAX_CARDS + 2, 2 * MAX_CARDS] {
             let needed = register_len(count);
             for bad in [None, Some(1), Some(MAX_CARDS - 1), Some(MAX_CARDS), Some(MAX_CARDS + 1), Some(count)] {
-                for room in [0, needed - 1, needed, needed + 1, MAX_LEN, MAX_LEN - 1, needed + MAX_LEN] {
+                for room in [0, needed - 1, needed, needed + 1, longest - 1, longest, MAX_LEN, needed + longest] {
                     compare_many(comparison, &pool, count, bad.filter(|bad| *bad <= count), room);
                 }
             }

@@ -2,8 +2,10 @@
 -- writing the cards that were read gives the bytes.
 -- Assumes nothing.
 use Prim.Native.Nat.{ℕ, zero, suc, ◌+◌, ◌*◌, ◌/◌, ◌%◌, ◌^◌, ◌≤◌, ◌<◌}
-use Rattle.std.proofs.Common.{add-one, arith, sym, ap, ◌∙◌, inl, inr, length-append, length-take, length-drop, take-append-drop, drop_of_length-le, take_at, drop_at, drop-cons, get_or-take, get_or-drop, length-take-le}
-use Rattle.std.specs.Prelude.{◌≡◌, false, ◌⊎◌, length, take, drop}
+use Rattle.std.proofs.Common.{add-one, arith, sym, ap, ap₂, ◌∙◌, inl, inr, length-append, length-take, length-drop, take-append-drop, drop_of_length-le, take_at, drop_at, drop-cons, get_or-take, get_or-drop, length-take-le}
+use Rattle.std.specs.Prelude.{◌≡◌, false, ◌⊎◌, length, take, drop, map}
+use Rattle.std.specs.Simd.{first_chunks}
+use Rattle.std.proofs.lemmas.List.{length-map}
 use Rattle.std.proofs.Math.Path.{refl}
 use mathlib.Core.List.{List, [], ◌∷◌, ◌++◌, append-nil, append_assoc}
 use Rattle.std.proofs.Math.ListN.{get_or-eq_default}
@@ -13,9 +15,10 @@ use Rattle.buffer.specs.Numbers.{byte_at, two_at, four_at, two_bytes, four_bytes
 use Rattle.buffer.proofs.Laws.{read_two, read_four}
 use Rattle.fields.specs.declared.Fields.{Fields}
 use Rattle.fields.specs.Layout.{fields_of}
-use Rattle.header.specs.Header.{count_of, bad_length, bad_version, bad_count}
+use Rattle.header.specs.declared.Layout.{Layout}
+use Rattle.header.specs.Header.{version_of, count_of, first_layout, layout_of, laid, layout_in, size_of as size_in, cards_in, Whole, bad_length, bad_version, bad_count, unknown}
+use Rattle.header.proofs.Cards.{cards_counted}
 use Rattle.comma.specs.Text.{card_bytes, bytes_of, size_of, header_bytes, register_of}
-use Rattle.comma.specs.Strict.{fields_from}
 use Rattle.comma.proofs.StrictLaws.{Fitting, AllFitting}
 use Rattle.comma.specs.CardLaws.{AllBytes}
 
@@ -69,18 +72,32 @@ pub card_behind : (f : Fields) (rest : List ℕ) → drop 24 (card_bytes f ++ re
 card_behind f rest = drop_at (card_bytes f) rest 24 (card_length f)
 
 -- cards one after the other
-pub fields_back : (xs : List Fields) → AllFitting xs → fields_from (length xs) (bytes_of xs) ≡ xs
-unfolding fields_from bytes_of
+fields_back : (xs : List Fields) → AllFitting xs → map fields_of (first_chunks 24 (length xs) (bytes_of xs)) ≡ xs
+unfolding bytes_of
 fields_back [] fit = refl
 fields_back (f ∷ rest) fit =
     rw (card_front f (bytes_of rest), card_behind f (bytes_of rest), fields_read f fit.0, fields_back rest fit.1)
 
--- and the register of some cards
-pub register_read : (xs : List Fields) → AllFitting xs → fields_from (length xs) (drop 7 (register_of xs)) ≡ xs
-unfolding register_of
-register_read xs fit =
-    ap (fields_from (length xs)) (drop_at (header_bytes (length xs)) (bytes_of xs) 7 (header_length (length xs)))
-    ∙ fields_back xs fit
+-- a version 1 register is laid out as that version says, and so is the register of some cards
+first_laid : (bytes : List ℕ) → version_of bytes ≡ 1 → layout_in bytes ≡ first_layout
+unfolding layout_in layout_of
+first_laid bytes e = ap (λ v. laid (layout_of v)) e
+
+register_version : (xs : List Fields) → version_of (register_of xs) ≡ 1
+unfolding register_of header_bytes two_bytes four_bytes
+register_version xs = refl
+
+pub register_count : (xs : List Fields) → length xs ≤ 2_000 → count_of (register_of xs) ≡ length xs
+unfolding register_of header_bytes two_bytes four_bytes
+register_count xs few = read_two (length xs) [] (omega arith)
+
+-- the register of some cards
+pub register_read : (xs : List Fields) → length xs ≤ 2_000 → AllFitting xs → map fields_of (cards_in (register_of xs)) ≡ xs
+unfolding register_of cards_in
+register_read xs few fit =
+    ap₂ (λ n (l : Layout). map fields_of (first_chunks l.card n (drop l.header (register_of xs)))) (register_count xs few) (first_laid (register_of xs) (register_version xs))
+    ∙ (ap (λ b. map fields_of (first_chunks 24 (length xs) b)) (drop_at (header_bytes (length xs)) (bytes_of xs) 7 (header_length (length xs)))
+    ∙ fields_back xs fit)
 
 -- ---- bytes
 
@@ -119,10 +136,17 @@ fields_fitting b all = record {
 }
 
 -- so do those of so many cards
-pub from_fitting : (n : ℕ) (b : List ℕ) → AllBytes b → AllFitting (fields_from n b)
-unfolding fields_from
-from_fitting zero b all = tt
-from_fitting (suc n) b all = (fields_fitting (take 24 b) (take_bytes 24 b all), from_fitting n (drop 24 b) (drop_bytes 24 b all))
+cut_fitting : (size n : ℕ) (b : List ℕ) → AllBytes b → AllFitting (map fields_of (first_chunks size n b))
+cut_fitting size zero b all = tt
+cut_fitting size (suc n) b all = (fields_fitting (take size b) (take_bytes size b all), cut_fitting size n (drop size b) (drop_bytes size b all))
+
+-- and those of a register, one for each card that its header counts
+pub register_fitting : (bytes : List ℕ) → AllBytes bytes → AllFitting (map fields_of (cards_in bytes))
+unfolding cards_in
+register_fitting bytes all = cut_fitting (layout_in bytes).card (count_of bytes) (drop (layout_in bytes).header bytes) (drop_bytes (layout_in bytes).header bytes all)
+
+pub register_counted : (bytes : List ℕ) → length (map fields_of (cards_in bytes)) ≡ count_of bytes
+register_counted bytes = length-map (cards_in bytes) fields_of ∙ cards_counted bytes
 
 -- ---- what is read is written as the bytes that it was read from
 
@@ -166,20 +190,14 @@ card_read b all long =
     )
     (one_back b 0 (omega arith))
 
--- so many cards as are asked for
-pub from_length : (n : ℕ) (b : List ℕ) → length (fields_from n b) ≡ n
-unfolding fields_from
-from_length zero b = refl
-from_length (suc n) b = ap suc (from_length n (drop 24 b))
-
 -- cards one after the other
-pub cards_back : (n : ℕ) (b : List ℕ) → AllBytes b → length b ≡ 24 * n → bytes_of (fields_from n b) ≡ b
-unfolding fields_from bytes_of
+cards_back : (n : ℕ) (b : List ℕ) → AllBytes b → length b ≡ 24 * n → bytes_of (map fields_of (first_chunks 24 n b)) ≡ b
+unfolding bytes_of
 cards_back zero b all long = sym (drop_of_length-le b {i = 0} (omega arith))
 cards_back (suc n) b all long =
     let first : card_bytes (fields_of (take 24 b)) ≡ take 24 b =
     card_read (take 24 b) (take_bytes 24 b all) (length-take-le 24 b (omega arith)) in
-    let others : bytes_of (fields_from n (drop 24 b)) ≡ drop 24 b =
+    let others : bytes_of (map fields_of (first_chunks 24 n (drop 24 b))) ≡ drop 24 b =
     cards_back n (drop 24 b) (drop_bytes 24 b all) (simp length-drop (omega arith)) in
     rw (first, others) (take-append-drop 24 b)
 
@@ -191,22 +209,23 @@ header_back bytes n all long whole version count =
     rw (append_assoc, ← version, ← whole, ← count, two_back bytes 5 all long, one_back bytes 4 (omega arith))
     (four_back bytes 0 all (omega arith))
 
--- a register whose header says its length, version and count is the register of its cards
-pub register_back : (bytes : List ℕ) (n : ℕ) → AllBytes bytes → length bytes ≡ size_of n → four_at bytes 0 ≡ length bytes
-    → byte_at bytes 4 ≡ 1 → two_at bytes 5 ≡ n → register_of (fields_from n (drop 7 bytes)) ≡ bytes
-unfolding register_of
-register_back bytes n all long whole version count =
-    rw (from_length n (drop 7 bytes), cards_back n (drop 7 bytes) (drop_bytes 7 bytes all) (simp length-drop (omega arith)))
-    (header_back bytes n all (omega arith) (whole ∙ long) version count)
+-- a version 1 register whose header says its length is the register of its cards
+pub register_back : (bytes : List ℕ) → AllBytes bytes → Whole bytes → four_at bytes 0 ≡ length bytes → version_of bytes ≡ 1 → register_of (map fields_of (cards_in bytes)) ≡ bytes
+unfolding register_of cards_in
+register_back bytes all w whole version =
+    let l : layout_in bytes ≡ first_layout = first_laid bytes version in
+    let n : ℕ = count_of bytes in
+    let long : length bytes ≡ size_of n = w.register ∙ ap (λ y. size_in y n) l in
+    let cut : bytes_of (map fields_of (cards_in bytes)) ≡ drop 7 bytes =
+    ap (λ (y : Layout). bytes_of (map fields_of (first_chunks y.card n (drop y.header bytes)))) l
+    ∙ cards_back n (drop 7 bytes) (drop_bytes 7 bytes all) (simp length-drop (omega arith)) in
+    ap₂ (λ k b. header_bytes k ++ b) (register_counted bytes) cut
+    ∙ header_back bytes n all (omega arith) (whole ∙ long) version refl
 
 -- ---- the register of at most 2,000 cards passes the checks of a header
 
 module _ (xs : List Fields) (few : length xs ≤ 2_000) where
-  -- its fields say how many cards it has, and how long it is
-  pub register_count : count_of (register_of xs) ≡ length xs
-  unfolding register_of header_bytes two_bytes four_bytes
-  register_count = read_two (length xs) [] (omega arith)
-
+  -- its header says how long it is
   register_whole : four_at (register_of xs) 0 ≡ size_of (length xs)
   unfolding register_of header_bytes two_bytes four_bytes
   register_whole = read_four (size_of (length xs)) [] (omega arith)
@@ -219,11 +238,11 @@ module _ (xs : List Fields) (few : length xs ≤ 2_000) where
       rw (register_whole, register_length xs, le-ltb size 7 (omega arith), eq-eqb size size refl)
 
   pub good_version : bad_version (register_of xs) ≡ false
-  unfolding bad_version register_of header_bytes two_bytes four_bytes
-  good_version = refl
+  unfolding bad_version layout_of
+  good_version = ap (λ v. unknown (layout_of v)) (register_version xs)
 
   pub good_count : bad_count (register_of xs) ≡ false
   unfolding bad_count
   good_count =
       let size : ℕ = size_of (length xs) in
-      rw (register_count, register_length xs, le-ltb 2_000 (length xs) few, eq-eqb size size refl)
+      rw (first_laid (register_of xs) (register_version xs), register_count xs few, register_length xs, le-ltb 2_000 (length xs) few, eq-eqb size size refl)

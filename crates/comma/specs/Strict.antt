@@ -1,10 +1,9 @@
 -- "one strict way of writing lines, without them and with an empty remark": no spaces, no leading zeros.
 -- Assumes nothing.
-use Rattle.std.specs.Prelude.{ℕ, zero, suc, ◌-◌, ◌/◌, List, [], ◌∷◌, ◌++◌, map, true, false, ltb, eqb, take, drop}
+use Rattle.std.specs.Prelude.{ℕ, ◌-◌, ◌/◌, List, [], ◌∷◌, ◌++◌, map, true, false, ltb, eqb}
 use Rattle.pieces.specs.Pieces.{closed}
 use Rattle.decimal.specs.Decimal.{digits, padded}
 use Rattle.fields.specs.declared.Fields.{Fields}
-use Rattle.fields.specs.Layout.{fields_of}
 
 -- "7782-50-5, the last groups two digits and one"
 unfoldable pub cas_text : ℕ → List ℕ
@@ -41,8 +40,3 @@ strict_line f = closed 44 (field_texts f)
 -- the strict text of some cards: "Every line ends in a line feed"
 unfoldable pub strict_lines : List Fields → List ℕ
 strict_lines xs = closed 10 (map strict_line xs)
-
--- the cards of a register, as fields: so many of them, from 24 bytes each
-unfoldable pub fields_from : ℕ → List ℕ → List Fields
-fields_from zero bytes = []
-fields_from (suc n) bytes = fields_of (take 24 bytes) ∷ fields_from n (drop 24 bytes)

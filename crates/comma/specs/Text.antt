@@ -1,7 +1,7 @@
 -- A text of comma lines: its cards, or the first line that is not well formed; what the reader answers, and what it leaves in
 -- the lent buffer.
 -- Assumes nothing.
-use Rattle.std.specs.Prelude.{ℕ, suc, ◌+◌, ◌*◌, List, [], ◌∷◌, ◌++◌, Bool, true, false, ltb, length, drop, Option, Some, None, Result, Ok, Err}
+use Rattle.std.specs.Prelude.{ℕ, suc, List, [], ◌∷◌, ◌++◌, Bool, true, false, ltb, length, drop, Option, Some, None, Result, Ok, Err}
 use Rattle.refusals.specs.declared.SentBack.{SentBack}
 use Rattle.refusals.specs.Numbers.{refused_at}
 use Rattle.search.specs.Places.{either}
@@ -9,7 +9,7 @@ use Rattle.buffer.specs.Numbers.{two_bytes, four_bytes}
 use Rattle.pieces.specs.Pieces.{pieces}
 use Rattle.fields.specs.declared.Fields.{Fields}
 use Rattle.refusals.specs.declared.Refusal.TheVariants as refusal
-use Rattle.header.specs.Header.{header_size, card_size}
+use Rattle.header.specs.Header.{first_layout, size_of as size_in}
 use Rattle.comma.specs.Line.{line_of}
 
 -- "A line is .. then a line feed (10), optional to the reader after the last": an empty text has no lines
@@ -53,9 +53,9 @@ unfoldable pub bytes_of : List Fields → List ℕ
 bytes_of [] = []
 bytes_of (f ∷ rest) = card_bytes f ++ bytes_of rest
 
--- how long the register of so many cards is
+-- how long the version 1 register of so many cards is
 abbrev pub size_of : ℕ → ℕ
-size_of count = header_size + card_size * count
+size_of count = size_in first_layout count
 
 -- "Four bytes: length of the whole register. One byte: version, 1. Two bytes: card count, at most 2,000."
 unfoldable pub header_bytes : ℕ → List ℕ

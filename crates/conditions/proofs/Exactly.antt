@@ -1,28 +1,31 @@
 -- Demand 1, proved: a call gives exactly the first refusal whose condition holds, and accepts exactly when none does.
 -- Assumes nothing.
-use Rattle.std.specs.Prelude.{Result, Ok, Err}
+use Rattle.std.specs.Prelude.{Bool, true, false, Result, Ok, Err}
 use Rattle.refusals.specs.declared.SentBack.{SentBack}
 use Rattle.refusals.specs.Numbers.{refused_at}
-use Prim.Native.Nat.{ℕ, zero, suc, ◌+◌, ◌*◌, ◌≤◌, ◌<◌}
-use Rattle.std.proofs.Common.{le_refl, ◌∙◌, sym, subst, inl, inr, ⊎_elim, drop-drop}
+use Prim.Native.Nat.{ℕ, zero, suc, ◌+◌, ◌≤◌, ◌<◌}
+use Rattle.std.proofs.Common.{le_refl, ◌∙◌, sym, subst, inl, inr, ⊎_elim, drop-cons}
 use native.Mathlib.Omega.{arith}
 use Rattle.std.proofs.lemmas.Bool.{cases_eq, cases_lt}
 use Rattle.std.proofs.lemmas.Bool.Decides.{nat_tests}
-use Rattle.std.specs.Prelude.{◌≡◌, ◌⊎◌, ltb, drop}
+use Rattle.std.specs.Prelude.{◌≡◌, ◌⊎◌, eqb, ltb, [], length, drop}
 use Rattle.std.proofs.Math.Path.{refl, ap}
 use mathlib.Core.List.{List}
+use Rattle.std.proofs.lemmas.List.{drop_all}
+use Rattle.refusals.specs.declared.Refusal.TheVariants as refusal
 use Rattle.refusals.specs.declared.Refusal.{Refusal}
 use Rattle.card.specs.declared.Answer.{Answer}
 use Rattle.card.specs.Number.{answer_number}
 use Rattle.card.specs.Answers.{answer_of}
 use Rattle.farthest.specs.declared.Leaders.{Leaders}
-use Rattle.header.specs.Header.{header_of, count_of}
-use Rattle.cards.specs.Register.{Cards, answers, sent_back, joined, then, cards_from, cards_of, result_of, after_header, outcome_of}
+use Rattle.header.specs.Header.{header_of, count_of, cards_in, stored_in}
+use Rattle.header.proofs.Cards.{cards_counted}
+use Rattle.cards.specs.Register.{Cards, answers, sent_back, joined, then, cards_from, unless_wrong, settled, cards_of, result_of, after_header, outcome_of}
 use Rattle.ordering.specs.Claim.{card_at}
-use Rattle.ordering.proofs.Found.{header_count}
-use Rattle.conditions.specs.Conditions.{Condition, only, of_register, of_card, number_before, conditions_at}
-use Rattle.conditions.specs.First.{Verdict, passed, refused, first_of, first_append, first_here, first_elsewhere}
+use Rattle.conditions.specs.Conditions.{only, of_register, number_before, card_lines, wrong_distance, at_last, conditions_at}
+use Rattle.conditions.specs.First.{Verdict, passed, refused, first_of, after, first_append, first_here, first_elsewhere}
 use Rattle.conditions.proofs.Cards.{verdict_of, card_verdict}
+use Rattle.conditions.proofs.Afresh.{refused_hides, wrong_is}
 use Rattle.conditions.specs.Claim.{RefusedExactly}
 use Rattle.conditions.proofs.Tables.{Passes, Refuses, exactly_by}
 
@@ -31,7 +34,7 @@ use Rattle.conditions.proofs.Tables.{Passes, Refuses, exactly_by}
 module _ (bytes : List ℕ) where
   -- what the card at a place comes to
   abbrev at : ℕ → Verdict
-  at place = first_of (of_card (card_at bytes place) (number_before bytes place))
+  at place = first_of (card_lines bytes place)
 
   -- what so many cards from a place on come to
   abbrev Walked : Cards → ℕ → ℕ → Type 0
@@ -47,28 +50,29 @@ module _ (bytes : List ℕ) where
   walked_on a (sent_back r q) from n here rest =
       (omega (arith, rest.0), omega (arith, rest.1), rest.2, λ p l h. in_front_lem from here p (λ m. rest.3 p m h) l)
 
-  next : (from : ℕ) → drop 24 (drop (7 + 24 * from) bytes) ≡ drop (7 + 24 * suc from) bytes
-  next from =
-      let z : 7 + 24 * from + 24 ≡ 7 + 24 * suc from = omega arith in
-      drop-drop 24 (7 + 24 * from) bytes ∙ ap (λ n. drop n bytes) z
-
   verdict_at : (from last : ℕ) → last ≡ number_before bytes from → at from ≡ verdict_of (answer_of (card_at bytes from) last)
   verdict_at from last e = grind (arith, card_verdict (card_at bytes from) last)
 
-  walked : (n from last : ℕ) → last ≡ number_before bytes from → Walked (cards_from n from last (drop (7 + 24 * from) bytes)) from n
+  -- the cards from a place on
+  abbrev left : ℕ → List (List ℕ)
+  left place = drop place (cards_in bytes)
+
+  walked : (n from last : ℕ) → from + n ≡ length (cards_in bytes) → last ≡ number_before bytes from → Walked (cards_from from last (left from)) from n
   unfolding cards_from
-  walked zero from last e = λ p l h. absurd (omega arith)
-  walked (suc n) from last e =
-      go (answer_of (card_at bytes from) last) refl (λ k q. walked n (suc from) k q)
+  walked zero from last e b =
+      subst (λ (cs : List (List ℕ)). Walked (cards_from from last cs) from 0) (sym (drop_all from (cards_in bytes) (omega (arith, e))))
+      (λ p l h. absurd (omega (arith, l, h)))
+  walked (suc n) from last e b =
+      subst (λ (cs : List (List ℕ)). Walked (cards_from from last cs) from (suc n)) (sym (drop-cons (cards_in bytes) from [] (omega (arith, e))))
+      (go (answer_of (card_at bytes from) last) refl (λ k q. walked n (suc from) k (omega (arith, e)) q))
     where
-      go : (x : Result Answer Refusal) → answer_of (card_at bytes from) last ≡ x → ((k : ℕ) → k ≡ number_before bytes (suc from) → Walked (cards_from n (suc from) k (drop (7 + 24 * suc from) bytes)) (suc from) n) → Walked (then x from (λ k. cards_from n (suc from) k (drop 24 (drop (7 + 24 * from) bytes)))) from (suc n)
+      go : (x : Result Answer Refusal) → answer_of (card_at bytes from) last ≡ x → ((k : ℕ) → k ≡ number_before bytes (suc from) → Walked (cards_from (suc from) k (left (suc from))) (suc from) n) → Walked (then x from (λ k. cards_from (suc from) k (left (suc from)))) from (suc n)
       go (Ok a) q ih =
-          walked_on a (cards_from n (suc from) a.number (drop 24 (drop (7 + 24 * from) bytes))) from n
-          (verdict_at from last e ∙ ap verdict_of q)
-          (subst (λ (b : List ℕ). Walked (cards_from n (suc from) a.number b) (suc from) n) (sym (next from))
-          (ih a.number (answer_number (card_at bytes from) last q)))
+          walked_on a (cards_from (suc from) a.number (left (suc from))) from n
+          (verdict_at from last b ∙ ap verdict_of q)
+          (ih a.number (answer_number (card_at bytes from) last q))
       go (Err r) q ih =
-          (le_refl from, omega arith, verdict_at from last e ∙ ap verdict_of q, λ p l h. absurd (omega arith))
+          (le_refl from, omega arith, verdict_at from last b ∙ ap verdict_of q, λ p l h. absurd (omega arith))
 
 -- ---- the whole register
 
@@ -85,19 +89,33 @@ module _ (bytes : List ℕ) (room : ℕ) where
   abbrev table : ℕ → Verdict
   table place = first_of (conditions_at bytes room place)
 
-  abbrev card_lines : ℕ → List Condition
-  card_lines place = of_card (card_at bytes place) (number_before bytes place)
+  -- what the last line comes to there
+  abbrev late : ℕ → Verdict
+  late place = first_of (only (eqb place 0) (at_last bytes))
 
-  -- where 1 to 4 pass, a place comes to what its card does, and where there is none to nothing
-  place_lines : first_of (of_register bytes room) ≡ passed → (place : ℕ) → table place ≡ first_of (only (ltb place (count_of bytes)) (card_lines place))
+  late_passes : wrong_distance bytes ≡ false → (place : ℕ) → late place ≡ passed
+  unfolding first_of only at_last
+  late_passes w place = grind (arith, w)
+
+  late_refuses : wrong_distance bytes ≡ true → late 0 ≡ refused refusal.Count
+  unfolding first_of only at_last
+  late_refuses w = grind (arith, w)
+
+  -- where 1 to 4 pass, a place comes to what its card does, where there is one, and then to what the last line does
+  place_lines : first_of (of_register bytes room) ≡ passed → (place : ℕ) → table place ≡ after (first_of (only (ltb place (count_of bytes)) (card_lines bytes place))) (late place)
   unfolding conditions_at
   place_lines e place = grind (arith, first_append, first_here, first_elsewhere)
 
-  card_there : first_of (of_register bytes room) ≡ passed → (place : ℕ) → place < count_of bytes → table place ≡ at bytes place
-  card_there e place h = grind (arith, nat_tests, place_lines e place, first_here (card_lines place))
+  card_there : first_of (of_register bytes room) ≡ passed → (place : ℕ) → place < count_of bytes → table place ≡ after (at bytes place) (late place)
+  card_there e place h = grind (arith, nat_tests, place_lines e place, first_here (card_lines bytes place))
 
-  no_card : first_of (of_register bytes room) ≡ passed → (place : ℕ) → count_of bytes ≤ place → table place ≡ passed
-  no_card e place h = grind (arith, nat_tests, place_lines e place, first_elsewhere (card_lines place))
+  -- where the card passes, to what the last line does alone
+  passed_there : first_of (of_register bytes room) ≡ passed → (place : ℕ) → (place < count_of bytes → at bytes place ≡ passed) → table place ≡ late place
+  passed_there e place w =
+      ⊎_elim
+      (λ (h : place < count_of bytes). card_there e place h ∙ ap (λ v. after v (late place)) (w h))
+      (λ (h : count_of bytes ≤ place). grind (arith, nat_tests, place_lines e place, first_elsewhere (card_lines bytes place)))
+      (cases_lt place (count_of bytes))
 
   -- 1 to 4 come before every card
   header_first : (r : Refusal) → first_of (of_register bytes room) ≡ refused r → table 0 ≡ refused r
@@ -109,22 +127,30 @@ module _ (bytes : List ℕ) (room : ℕ) where
   Told (Ok l) = Passes (conditions_at bytes room)
   Told (Err sent) = Refuses (conditions_at bytes room) sent.refusal sent.place
 
-  cards_told : (c : Cards) → first_of (of_register bytes room) ≡ passed → Walked bytes c 0 (count_of bytes) → Told (result_of c)
-  cards_told (answers xs) e w = λ p.
-      ⊎_elim
-      (λ (h : p < count_of bytes). card_there e p h ∙ w p (omega arith) (omega arith))
-      (λ (h : count_of bytes ≤ p). no_card e p h)
-      (cases_lt p (count_of bytes))
-  cards_told (sent_back r q) e w =
+  abbrev Settled : Cards → Type 0
+  Settled c = Told (result_of (settled (stored_in bytes) c))
+
+  cards_told : (c : Cards) → cards_from 0 0 (cards_in bytes) ≡ c → first_of (of_register bytes room) ≡ passed → Walked bytes c 0 (count_of bytes) → Settled c
+  cards_told (answers xs) k e w =
+      let every : (p : ℕ) → p < count_of bytes → at bytes p ≡ passed = λ p h. w p (omega arith) (omega (arith, h)) in
+      let here : (p : ℕ) → table p ≡ late p = λ p. passed_there e p (every p) in
+      subst (λ b. Told (result_of (unless_wrong b xs))) (wrong_is bytes k every) (go here (wrong_distance bytes) refl)
+    where
+      go : ((p : ℕ) → table p ≡ late p) → (b : Bool) → wrong_distance bytes ≡ b → Told (result_of (unless_wrong b xs))
+      go here false q = λ p. here p ∙ late_passes q p
+      go here true q = (here 0 ∙ late_refuses q, λ p h. absurd (omega (arith, h)))
+  cards_told (sent_back r q) k e w =
       let h : q < count_of bytes = omega (arith, w.1) in
-      (card_there e q h ∙ w.2, λ p l. card_there e p (omega arith) ∙ w.3 p (omega arith) l)
+      let hidden = refused_hides bytes q r h w.2 in (
+        card_there e q h ∙ ap (λ v. after v (late q)) w.2,
+        λ p l. passed_there e p (λ m. w.3 p (omega arith) l) ∙ late_passes hidden p,
+      )
 
   header_told : (h : Result ℕ Refusal) → header_of bytes room ≡ h → Told (after_header h bytes)
   unfolding cards_of
   header_told (Ok n) e =
-      let c : count_of bytes ≡ n = header_count bytes room n e in
-      cards_told (cards_from n 0 0 (drop 7 bytes)) (grind (arith, header_verdict_lem bytes room, e))
-      (subst (λ k. Walked bytes (cards_from n 0 0 (drop 7 bytes)) 0 k) (sym c) (walked bytes n 0 0 refl))
+      cards_told (cards_from 0 0 (cards_in bytes)) refl (grind (arith, header_verdict_lem bytes room, e))
+      (walked bytes (count_of bytes) 0 0 (omega (arith, cards_counted bytes)) refl)
   header_told (Err r) e =
       (header_first r (grind (arith, header_verdict_lem bytes room, e)), λ p h. absurd (omega arith))
 

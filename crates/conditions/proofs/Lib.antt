@@ -1,3 +1,4 @@
+pub mod Afresh
 pub mod Beyond
 pub mod Cards
 pub mod Exactly

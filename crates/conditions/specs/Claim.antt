@@ -8,7 +8,7 @@ use Rattle.refusals.specs.declared.Refusal.{Refusal}
 use Rattle.refusals.specs.Numbers.{number_of}
 use Rattle.farthest.specs.declared.Leaders.{Leaders}
 use Rattle.cards.specs.Register.{outcome_of}
-use Rattle.conditions.specs.Conditions.{Condition, condition, only, of_register, of_card, conditions_at}
+use Rattle.conditions.specs.Conditions.{Condition, condition, only, of_register, of_card, at_last, conditions_at}
 use Rattle.conditions.specs.First.{holds_in, Names}
 
 -- A table has a list of conditions at each place. The condition in a line of it holds at a place; lines and places are counted
@@ -31,7 +31,8 @@ ExactlyBy table Refused Accepted =
     ((r : Refusal) (place : ℕ) → Refused r place ↔ First table r place)
     × (Accepted ↔ ((place line : ℕ) → Holds table line place → ⊥))
 
--- Demand 1 of the register call. 1 to 4 stand above a card's conditions and at place 0 alone, so they come before every card.
+-- Demand 1 of the register call. 1 to 4 stand above a card's conditions and at place 0 alone, so they come before every card. A wrong
+-- stored distance stands at place 0 as well and below them, but its condition is that no card's holds: so it comes behind every card.
 abbrev pub RefusedExactly : Type 0
 RefusedExactly =
     (bytes : List ℕ) (room : ℕ)
@@ -43,7 +44,8 @@ RefusedExactly =
 abbrev pub number_in : Condition → ℕ
 number_in (condition r b) = number_of r
 
--- The lines stand in the order of document 01's numbers, with 14, 15 and 16 "where 9 was", behind it and above 10.
-pub numbered : (bytes : List ℕ) (room place : ℕ) → map number_in (conditions_at bytes room place) ≡ 1 ∷ 2 ∷ 3 ∷ 4 ∷ 5 ∷ 6 ∷ 7 ∷ 8 ∷ 9 ∷ 14 ∷ 15 ∷ 16 ∷ 10 ∷ 11 ∷ []
-unfolding conditions_at only of_register of_card
+-- The lines stand in the order of document 01's numbers, with 14, 15 and 16 "where 9 was", behind it and above 10, and 3 once more at
+-- the end.
+pub numbered : (bytes : List ℕ) (room place : ℕ) → map number_in (conditions_at bytes room place) ≡ 1 ∷ 2 ∷ 3 ∷ 4 ∷ 5 ∷ 6 ∷ 7 ∷ 8 ∷ 9 ∷ 14 ∷ 15 ∷ 16 ∷ 10 ∷ 11 ∷ 3 ∷ []
+unfolding conditions_at only of_register of_card at_last
 numbered bytes room place = refl

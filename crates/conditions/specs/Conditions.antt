@@ -1,7 +1,7 @@
 -- "When a register is sent back": the condition of each number, over the bytes and the place, in document 01's words. "Demand 1
--- counts these and later numbers with 01's" (document 02, A2): a request adds a line to `of_register` or `of_card`.
+-- counts these and later numbers with 01's" (document 02, A2): a request adds a line to `of_register`, `of_card` or `at_last`.
 -- Assumes nothing.
-use Rattle.std.specs.Prelude.{ℕ, zero, suc, ◌*◌, ◌-◌, Bool, true, false, not, List, [], ◌∷◌, ◌++◌, map, ltb, eqb, ℤ, pos, negsuc, get_or, length, Option, Some, None}
+use Rattle.std.specs.Prelude.{ℕ, zero, suc, ◌*◌, ◌-◌, max, Bool, true, false, not, List, [], ◌∷◌, ◌++◌, map, ltb, eqb, ℤ, pos, negsuc, get_or, length, Option, Some, None}
 use Rattle.scenario.specs.declared.Scenario.{Scenario}
 use Rattle.std.specs.Int.Signed.{lt_z}
 use Rattle.search.specs.Rising.{both}
@@ -32,8 +32,12 @@ use Rattle.refusals.specs.declared.Refusal.{Refusal}
 use Rattle.refusals.specs.declared.Refusal.TheVariants as refusal
 use Rattle.ranges.specs.Ranges.{bad_pounds, bad_area, bad_wall, bad_heat, signed, tenths_of}
 use Rattle.meaning.specs.Reading.{bad_number, substance_of}
-use Rattle.header.specs.Header.{bad_length, bad_version, bad_count, bad_buffer, count_of}
+use Rattle.card.specs.declared.Class.{Class}
+use Rattle.card.specs.declared.Class.TheVariants as class
+use Rattle.header.specs.Header.{bad_length, bad_version, bad_count, bad_buffer, count_of, layout_in, stored_at}
+use Rattle.ordering.specs.Order.{kind_of}
 use Rattle.ordering.specs.Claim.{card_at}
+use Rattle.prefix.specs.Claim.{distance_of}
 
 -- one of some tests passes
 abbrev pub any_of : List Bool → Bool
@@ -280,8 +284,48 @@ abbrev pub number_before : List ℕ → ℕ → ℕ
 number_before bytes zero = 0
 number_before bytes (suc place) = (fields_of (card_at bytes place)).number
 
--- The table at a place: "the card's place, counted from 0 (0 for 1 to 4 ..)", and a card's conditions where there is one.
+-- the conditions of the card at a place
+abbrev pub card_lines : List ℕ → ℕ → List Condition
+card_lines bytes place = of_card (card_at bytes place) (number_before bytes place)
+
+-- whether a line's condition holds
+abbrev pub met : Condition → Bool
+met (condition r b) = b
+
+-- "once every card has passed", of the first so many: no condition of any of them holds
+unfoldable pub have_passed : List ℕ → ℕ → Bool
+have_passed bytes zero = true
+have_passed bytes (suc n) = both (not (any_of (map met (card_lines bytes n)))) (have_passed bytes n)
+
+-- a distance where the test passes, else none
+abbrev pub distance_if : Bool → ℕ → ℕ
+distance_if true d = d
+distance_if false d = 0
+
+-- The distance of a class "worked out afresh" from the first so many cards: the largest that demand 2 gives a card of the class,
+-- "zero for none".
+unfoldable pub farthest_among : Class → List ℕ → ℕ → ℕ
+farthest_among c bytes zero = 0
+farthest_among c bytes (suc n) =
+    max (distance_if (eqb (byte_at (card_at bytes n) 0) (kind_of c)) (distance_of (card_at bytes n))) (farthest_among c bytes n)
+
+-- "A wrong stored distance": one of the two, "toxic then flammable", is not the one worked out afresh
+abbrev pub stored_wrong : List ℕ → Bool
+stored_wrong bytes =
+    either (not (eqb (stored_at bytes).toxic (farthest_among class.Toxic bytes (count_of bytes))))
+    (not (eqb (stored_at bytes).flammable (farthest_among class.Flammable bytes (count_of bytes))))
+
+-- 3 once more, document 02, A9: "A wrong stored distance is number 3, once every card has passed", in a version that stores them
+unfoldable pub wrong_distance : List ℕ → Bool
+wrong_distance bytes = both (layout_in bytes).stores (both (have_passed bytes (count_of bytes)) (stored_wrong bytes))
+
+-- of the whole register again, behind its cards
+unfoldable pub at_last : List ℕ → List Condition
+at_last bytes = condition refusal.Count (wrong_distance bytes) ∷ []
+
+-- The table at a place: "the card's place, counted from 0 (0 for 1 to 4, and wherever no card is meant)", and a card's conditions
+-- where there is one.
 unfoldable pub conditions_at : List ℕ → ℕ → ℕ → List Condition
 conditions_at bytes room place =
     only (eqb place 0) (of_register bytes room)
-    ++ only (ltb place (count_of bytes)) (of_card (card_at bytes place) (number_before bytes place))
+    ++ (only (ltb place (count_of bytes)) (card_lines bytes place) ++ only (eqb place 0) (at_last bytes))

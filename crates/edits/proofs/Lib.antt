@@ -1,3 +1,4 @@
 pub mod Rising
 pub mod Cut
+pub mod Lists
 mod Ends

@@ -62,7 +62,7 @@ fn layout_in(register: &[u8]) -> Layout
 }
 
 #[tactic(auto, unfolding(crate::specs::Header::bad_length))]
-fn bad_length(register: &[u8]) -> bool
+pub fn bad_length(register: &[u8]) -> bool
     ensures { result ≡ bad_length register.now }
 {
     register.len() < 7 || buffer::four(register, 0) as usize != register.len()

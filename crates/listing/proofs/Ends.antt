@@ -8,12 +8,10 @@ use mathlib.Core.Path.{◌≡◌, ◌∙◌, ap, sym, subst}
 use mathlib.Core.List.{List, ◌++◌, append_assoc}
 use lib.ListN.{length, take, drop, take-append-drop}
 use lib.Seq.{sets, length-take-le, drop-append-le}
-use Rattle.std.specs.List.{concat}
-use Rattle.buffer.specs.Numbers.{two_at}
 use borrow.Author.Tests.{lt-ltb, le-ltb}
 use Rattle.refusals.specs.Numbers.{number_of}
 use Rattle.farthest.specs.declared.Leaders.{Leaders}
-use Rattle.header.specs.Header.{enough, header_of}
+use Rattle.header.specs.Header.{enough, cards_in, header_of}
 use Rattle.running.specs.declared.Running.{Running}
 use Rattle.running.specs.Running.{before_cards}
 use Rattle.lines.specs.Lines.{card_line}
@@ -35,18 +33,18 @@ pub leaders_line : (l : Leaders) {b₀ b₁ b₂ : Writer} → Puts b₀ b₁ (l
 unfolding leader_lines
 leaders_line l toxic flammable = then toxic flammable
 
-module _ {out after : List ℕ} {end : ℕ} (bytes : List ℕ) (accepted : IsAccepted (outcome_of bytes enough)) (cards : List (List ℕ)) (k : length cards ≡ two_at bytes 5) (b : concat cards ≡ drop 7 bytes) (x : Result (Running × ℕ) (SentBack ℕ)) (w : x ≡ walk_from card_line (length cards) before_cards 0 (concat cards)) where
+module _ {out after : List ℕ} {end : ℕ} (bytes : List ℕ) (accepted : IsAccepted (outcome_of bytes enough)) (cards : List (List ℕ)) (c : cards ≡ cards_in bytes) (x : Result (Running × ℕ) (SentBack ℕ)) (w : x ≡ walk_from card_line before_cards 0 cards) where
   -- the cards' lines, and the leaders' behind them
   pub accepted_lines : {lined : List ℕ} (t : Running) (size : ℕ) → x ≡ Ok (t, size)
-      → lined ≡ sets out 0 (text_from card_line (length cards) before_cards (concat cards))
+      → lined ≡ sets out 0 (text_from card_line before_cards cards)
       → Wrote lined after size end (leader_lines t.leaders) → Wrote out after 0 end (listed_after (header_of bytes enough) bytes)
   accepted_lines t size q lines leaders =
-      let p = passed card_line (length cards) before_cards (concat cards) t size (sym w ∙ q) in
-      subst (Wrote out after 0 end) (accepted_text bytes accepted cards k b t size p)
-      (joined {s = text_from card_line (length cards) before_cards (concat cards)} (record { place = omega (arith, p.sized, ap length p.text); bytes = lines }) leaders)
+      let p = passed card_line before_cards cards t size (sym w ∙ q) in
+      subst (Wrote out after 0 end) (accepted_text bytes accepted cards c t size p)
+      (joined {s = text_from card_line before_cards cards} (record { place = omega (arith, p.sized, ap length p.text); bytes = lines }) leaders)
 
   pub never_stopped : (sent : SentBack ℕ) → x ≡ Err sent → Wrote out after 0 end (listed_after (header_of bytes enough) bytes)
-  never_stopped sent q = accepted_walk bytes accepted cards k b sent (sym w ∙ q)
+  never_stopped sent q = accepted_walk bytes accepted cards c sent (sym w ∙ q)
 
 -- 128 bytes a card: 2,000 cards have room, and the leaders behind them
 pub lines_room : (n : ℕ) (out : List ℕ) → n ≤ 2_000 → length out ≡ listing_room → 128 * n ≤ length out

@@ -1,7 +1,6 @@
 -- The walk that writes lines comes to the lines of the cards and the leaders, and the outcome of a register to its text.
 -- Assumes nothing.
-use Rattle.std.specs.List.{concat}
-use Rattle.std.specs.Prelude.{ℕ, ◌+◌, ◌*◌, ◌≤◌, ◌≡◌, refl, List, [], ◌∷◌, ◌++◌, length, take, drop, Option, Some, Result, Ok, Err}
+use Rattle.std.specs.Prelude.{ℕ, ◌≤◌, ◌≡◌, refl, List, [], ◌∷◌, ◌++◌, length, take, Option, Some, Result, Ok, Err}
 use Rattle.refusals.specs.declared.SentBack.{SentBack}
 use Rattle.std.proofs.Common.{arith, ◌∙◌, ap₂, sym, subst, length-take}
 use Rattle.std.proofs.Math.Path.{ap}
@@ -9,14 +8,14 @@ use Rattle.search.specs.Laws.{clash}
 use Rattle.refusals.specs.declared.Refusal.{Refusal}
 use Rattle.refusals.specs.Numbers.{number_of}
 use Rattle.card.specs.declared.Answer.{Answer}
-use Rattle.header.specs.Header.{enough, header_of, Fitting}
-use Rattle.buffer.specs.Numbers.{two_at}
+use Rattle.header.specs.Header.{count_of, cards_in, stored_in, enough, header_of, Whole, Fitting}
+use Rattle.header.proofs.Cards.{cards_counted}
 use Rattle.farthest.specs.declared.Leaders.{Leaders}
 use Rattle.running.specs.declared.Running.{Running}
 use Rattle.running.specs.Running.{before_cards}
 use Rattle.walk.specs.Walk.{texts_of, walk_from, text_from}
 use Rattle.cards.specs.Register.{Cards, answers, sent_back, cards_from, cards_of, result_of, after_header, outcome_of}
-use Rattle.cards.proofs.Laws.{good_cards, accepted_header, accepted_fits}
+use Rattle.cards.proofs.Laws.{settled_is, accepted_header, accepted_fits}
 use Rattle.cards.proofs.Walked.{Passed, passed_leaders, stopped}
 use Rattle.lines.specs.Lines.{card_line}
 use Rattle.closing.specs.Closing.{refused_line}
@@ -33,6 +32,14 @@ refused_text : (c : Cards) {sent : SentBack ℕ} → result_of c ≡ Err sent �
 refused_text (answers xs) e = let z : ◌≡◌ {A = ℕ} 0 1 = cc in clash z
 refused_text (sent_back r place) e = cc
 
+-- cards of which a register is accepted are all answered
+all_answered : (c : Cards) → IsAccepted (result_of c) → (xs : List Answer) × (c ≡ answers xs)
+all_answered (answers xs) a = (xs, refl)
+all_answered (sent_back r place) a = absurd a
+
+answers_are : {xs ys : List Answer} → answers xs ≡ answers ys → xs ≡ ys
+answers_are e = cc
+
 -- an accepted register: what the walk over its cards writes and ends with
 module _ (bytes : List ℕ) (accepted : IsAccepted (outcome_of bytes enough)) where
   leaders : (l : Leaders) × (outcome_of bytes enough ≡ Ok l)
@@ -45,35 +52,38 @@ module _ (bytes : List ℕ) (accepted : IsAccepted (outcome_of bytes enough)) wh
   good : (n : ℕ) × (header_of bytes enough ≡ Ok n)
   good = accepted_header bytes enough leaders.0 leaders.1
 
-  fits : Fitting bytes enough (two_at bytes 5)
+  fits : Fitting bytes enough (count_of bytes)
   fits = accepted_fits bytes enough leaders.0 leaders.1
 
-  pub accepted_length : length bytes ≡ 7 + 24 * two_at bytes 5
-  accepted_length = fits.register
+  pub accepted_whole : Whole bytes
+  accepted_whole = fits.whole
 
-  module _ (cards : List (List ℕ)) (k : length cards ≡ two_at bytes 5) where
+  -- its cards are all answered, and no wrong distance is stored
+  told : (xs : List Answer) × (cards_of bytes ≡ answers xs)
+  unfolding outcome_of
+  told = all_answered (cards_of bytes) (subst IsAccepted (ap (λ h. after_header h bytes) good.1) accepted)
+
+  module _ (cards : List (List ℕ)) (c : cards ≡ cards_in bytes) where
     pub accepted_count : length cards ≤ 2_000
-    accepted_count = omega (arith, fits.cards, k)
+    accepted_count = omega (arith, fits.cards, cards_counted bytes, ap length c)
 
-    module _ (b : concat cards ≡ drop 7 bytes) where
-      cards_are : cards_from (length cards) 0 0 (concat cards) ≡ cards_of good.0 bytes
-      cards_are = good_cards bytes enough (header_of bytes enough) refl good.0 good.1 cards k b
+    answered : cards_from 0 0 cards ≡ answers told.0
+    unfolding cards_of
+    answered = ap (cards_from 0 0) c ∙ (settled_is (stored_in bytes) (cards_from 0 0 (cards_in bytes)) told.1).0
 
-      -- it prints its cards and then its leaders
-      pub accepted_text : (t : Running) (size : ℕ) → Passed card_line (length cards) before_cards (concat cards) t size → text_from card_line (length cards) before_cards (concat cards) ++ leader_lines t.leaders ≡ listed_after (header_of bytes enough) bytes
-      accepted_text t size p =
-          ap₂ (λ text l. text ++ leader_lines l) (p.text ∙ texts_lines p.list) (passed_leaders card_line (length cards) (concat cards) t size p)
-          ∙ (ap listing_of (sym p.cards ∙ cards_are) ∙ ap (λ h. listed_after h bytes) (sym good.1))
+    -- it prints its cards and then its leaders
+    pub accepted_text : (t : Running) (size : ℕ) → Passed card_line before_cards cards t size → text_from card_line before_cards cards ++ leader_lines t.leaders ≡ listed_after (header_of bytes enough) bytes
+    accepted_text t size p =
+        ap₂ (λ text l. text ++ leader_lines l) (p.text ∙ texts_lines p.list) (passed_leaders card_line cards t size p)
+        ∙ (ap (λ xs. listing_of (answers xs)) (answers_are (sym p.answered ∙ answered))
+        ∙ (ap listing_of (sym told.1) ∙ ap (λ h. listed_after h bytes) (sym good.1)))
 
-      -- its walk stops at no card
-      pub accepted_walk : {A : Type 0} (sent : SentBack ℕ) → walk_from card_line (length cards) before_cards 0 (concat cards) ≡ Err sent → A
-      unfolding outcome_of
-      accepted_walk sent e =
-          absurd
-          (subst IsAccepted
-          (ap (λ h. after_header h bytes) good.1
-          ∙ ap result_of (sym cards_are ∙ stopped card_line (length cards) before_cards (concat cards) sent e))
-          accepted)
+    -- its walk stops at no card
+    pub accepted_walk : {A : Type 0} (sent : SentBack ℕ) → walk_from card_line before_cards 0 cards ≡ Err sent → A
+    accepted_walk sent e =
+        let q : sent_back sent.refusal sent.place ≡ answers told.0 = sym (stopped card_line before_cards cards sent e) ∙ answered in
+        let z : ◌≡◌ {A = ℕ} 0 1 = cc in
+        clash z
 
 module _ (bytes : List ℕ) where
   -- a register that is sent back prints why
@@ -82,7 +92,7 @@ module _ (bytes : List ℕ) where
   sent_back_text {sent} q = go (header_of bytes enough) q
     where
       go : (h : Result ℕ Refusal) → after_header h bytes ≡ Err sent → refused_line (number_of sent.refusal) sent.place ≡ listed_after h bytes
-      go (Ok n) p = refused_text (cards_of n bytes) p
+      go (Ok n) p = refused_text (cards_of bytes) p
       go (Err s) p = cc
 
 -- ---- what a caller has who prints the text: it is a part of the buffer, from its start

@@ -6,14 +6,15 @@ use Rattle.refusals.specs.Numbers.{number_of}
 use Rattle.card.specs.declared.Answer.{Answer}
 use Rattle.farthest.specs.declared.Leaders.{Leaders}
 use Rattle.farthest.specs.Farthest.{leaders_of}
-use Rattle.header.specs.Header.{header_size, card_size, enough, header_of}
+use Rattle.header.specs.Header.{second_layout, size_of, enough, header_of}
 use Rattle.cards.specs.Register.{Cards, answers, sent_back, cards_of}
 use Rattle.lines.specs.Lines.{card_line}
 use Rattle.closing.specs.Closing.{leader_line, refused_line, unless_long}
 
--- "the longest register that can be accepted (48,007 bytes)": the header and 2,000 cards
+-- "the longest register that can be accepted": 2,000 cards; document 02, A9: "the listing's limit follows the longest register", and
+-- that is one of version 2 (48,011 bytes)
 abbrev pub longest : ℕ
-longest = header_size + card_size * 2_000
+longest = size_of second_layout 2_000
 
 -- "prints card number, route, table, pounds per minute (three decimals) and miles (two decimals)", a line for each card
 unfoldable pub card_lines : List Answer → List ℕ
@@ -31,11 +32,11 @@ listing_of (sent_back r place) = refused_line (number_of r) place
 
 -- "(0 for 1 to 4, and wherever no card is meant)"
 abbrev pub listed_after : Result ℕ Refusal → List ℕ → List ℕ
-listed_after (Ok count) bytes = listing_of (cards_of count bytes)
+listed_after (Ok count) bytes = listing_of (cards_of bytes)
 listed_after (Err r) bytes = refused_line (number_of r) 0
 
 -- "The listing program reads a register on standard input and prints" this; "An input longer than the longest register that can be
--- accepted (48,007 bytes) prints `too long` and nothing else."
+-- accepted .. prints `too long` and nothing else."
 unfoldable pub text_of : List ℕ → List ℕ
 text_of bytes = unless_long (ltb longest (length bytes)) (listed_after (header_of bytes enough) bytes)
 

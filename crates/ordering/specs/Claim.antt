@@ -1,6 +1,6 @@
 -- Demand 3, in the words of document 01: what it says of two registers. The theorem is `rings_ordered` of `Ordering`.
 -- Assumes nothing.
-use Rattle.std.specs.Prelude.{ℕ, ◌+◌, ◌*◌, ◌<◌, ◌≡◌, List, take, drop, length, Option, Ok}
+use Rattle.std.specs.Prelude.{ℕ, ◌<◌, ◌≡◌, List, [], length, get_or, Option, Ok}
 use Rattle.farthest.specs.declared.Leader.{Leader}
 use Rattle.buffer.specs.Numbers.{byte_at}
 use Rattle.card.specs.declared.Class.{Class}
@@ -8,12 +8,12 @@ use Rattle.card.specs.declared.Class.TheVariants as class
 use Rattle.ordering.specs.Order.{kind_of, Counterpart}
 use Rattle.farthest.specs.declared.Leaders.{Leaders}
 use Rattle.farthest.specs.Farthest.{NoFarther}
-use Rattle.header.specs.Header.{header_size, card_size, count_of}
+use Rattle.header.specs.Header.{count_of, cards_in}
 use Rattle.cards.specs.Register.{outcome_of}
 
--- "Demand 3 reads its cards from the bytes handed in": the 24 bytes of the card at a place
+-- "Demand 3 reads its cards from the bytes handed in": the bytes of the card at a place, as the register's version lays them
 abbrev pub card_at : List ℕ → ℕ → List ℕ
-card_at register i = take card_size (drop (header_size + card_size * i) register)
+card_at register i = get_or (cards_in register) i []
 
 -- "A register is accepted if the call that fills the answer buffer gives no refusal for it with some answer buffer; its
 -- farthest distances are those in that call's result": what the call answers for these bytes and this buffer

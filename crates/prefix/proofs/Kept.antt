@@ -1,6 +1,6 @@
 -- The definition of the leaders after the first k cards says what the paper's words say (`Claim.antt`).
 -- Assumes nothing.
-use Rattle.std.specs.Prelude.{ℕ, zero, suc, ◌≤◌, ◌<◌, ◌≡◌, refl, List, [], ◌∷◌, take, drop, Some, Result, Ok, Err}
+use Rattle.std.specs.Prelude.{ℕ, zero, suc, ◌≤◌, ◌<◌, ◌≡◌, refl, List, [], ◌∷◌, length, take, Option, Some, Result, Ok, Err}
 use Rattle.refusals.specs.declared.SentBack.{SentBack}
 use Rattle.farthest.specs.Farthest.{leader}
 use Rattle.refusals.specs.Numbers.{refused_at}
@@ -18,13 +18,14 @@ use Rattle.card.specs.Number.{answer_number}
 use Rattle.farthest.specs.declared.Leaders.{Leaders}
 use Rattle.farthest.specs.Farthest.{At, Reaches, farthest_of, leaders_of}
 use Rattle.farthest.proofs.Laws.{reaches, leads, none_only, none_if}
-use Rattle.header.specs.Header.{enough, header_of, count_of}
-use Rattle.cards.specs.Register.{Cards, answers, sent_back, cards_from, cards_of, result_of, after_header, outcome_of}
-use Rattle.cards.proofs.Laws.{cards_count}
+use Rattle.header.specs.declared.Stored.{Stored}
+use Rattle.header.specs.Header.{enough, header_of, count_of, stored_in, cards_in}
+use Rattle.header.proofs.Cards.{cards_counted}
+use Rattle.cards.specs.Register.{Cards, answers, sent_back, cards_from, settled, cards_of, result_of, after_header, outcome_of}
+use Rattle.cards.proofs.Laws.{cards_count, settled_is}
 use Rattle.ordering.specs.Claim.{card_at}
 use Rattle.ordering.proofs.Ordering.{in_result}
-use Rattle.ordering.specs.Found.{Found}
-use Rattle.ordering.proofs.Found.{found, header_count, from_card, to_card}
+use Rattle.ordering.proofs.Found.{found, found_cards, from_card, to_card}
 use Rattle.prefix.specs.Prefix.{result_after, result_behind, prefix_of}
 use Rattle.prefix.specs.Claim.{distance_in, distance_of, Among, LeaderOfFirst, FarthestOfFirst, Keeps}
 
@@ -44,10 +45,10 @@ first_at (x ∷ xs) (suc k) (suc i) a w = let r = first_at xs k i a w in (suc-le
 
 -- ---- one card
 
-same_class : (c d : Class) → kind_of c ≡ kind_of d → c ≡ d
+pub same_class : (c d : Class) → kind_of c ≡ kind_of d → c ≡ d
 same_class c d e = grind arith
 
-distance_is : (card : List ℕ) (last : ℕ) {a : Answer} → answer_of card last ≡ Ok a → distance_of card ≡ a.distance.0
+pub distance_is : (card : List ℕ) (last : ℕ) {a : Answer} → answer_of card last ≡ Ok a → distance_of card ≡ a.distance.0
 unfolding distance_of
 distance_is card last e = ap distance_in (answer_first card last e)
 
@@ -123,10 +124,8 @@ module _ (c : Class) (bytes : List ℕ) (k : ℕ) {l : Leaders} (e : outcome_of 
 
 -- of an accepted register the definition takes the leaders of the first k answers
 pub accepted_first : (bytes : List ℕ) (k : ℕ) {l : Leaders} (e : outcome_of bytes enough ≡ Ok l) → prefix_of bytes k ≡ Ok (leaders_of (take k (found bytes enough e).list))
-unfolding prefix_of outcome_of cards_of
-accepted_first bytes k {l} e =
-    let f : Found bytes l = found bytes enough e in
-    grind (arith, f.cards, header_count bytes enough, e)
+unfolding prefix_of outcome_of
+accepted_first bytes k e = grind (arith, found_cards bytes (found bytes enough e), e)
 
 -- one that is sent back gives its refusal
 pub refused_first : (bytes : List ℕ) (k : ℕ) (r : Refusal) (place : ℕ) → outcome_of bytes enough ≡ Err (refused_at r place) → prefix_of bytes k ≡ Err (refused_at r place)
@@ -146,15 +145,18 @@ keeps bytes k = go (outcome_of bytes enough) refl
 -- ---- the two ends
 
 -- beyond the count the leaders are those of the whole register
-pub all_cards : (n k place last : ℕ) (bytes : List ℕ) (c : Cards) → cards_from n place last bytes ≡ c → n ≤ k → result_after k c ≡ result_of c
-all_cards n k place last bytes (answers xs) e h =
-    ap (λ (ys : List Answer). Ok (leaders_of ys)) (take_all k xs (omega (arith, cards_count n place last bytes xs e)))
-all_cards n k place last bytes (sent_back r p) e h = refl
+pub all_cards : (s : Option Stored) (cards : List (List ℕ)) (k : ℕ) → length cards ≤ k → result_after k (settled s (cards_from 0 0 cards)) ≡ result_of (settled s (cards_from 0 0 cards))
+all_cards s cards k h = go (settled s (cards_from 0 0 cards)) refl
+  where
+    go : (c : Cards) → settled s (cards_from 0 0 cards) ≡ c → result_after k c ≡ result_of c
+    go (answers xs) e =
+        ap (λ (ys : List Answer). Ok (leaders_of ys)) (take_all k xs (omega (arith, cards_count 0 0 cards xs (settled_is s (cards_from 0 0 cards) e).0)))
+    go (sent_back r p) e = refl
 
 pub beyond_count : (bytes : List ℕ) (k : ℕ) → count_of bytes ≤ k → prefix_of bytes k ≡ outcome_of bytes enough
 unfolding prefix_of outcome_of cards_of
-beyond_count bytes k h = go (header_of bytes enough) refl
+beyond_count bytes k h = go (header_of bytes enough)
   where
-    go : (x : Result ℕ Refusal) → header_of bytes enough ≡ x → result_behind k x bytes ≡ after_header x bytes
-    go (Ok n) e = all_cards n k 0 0 (drop 7 bytes) (cards_of n bytes) refl (subst (λ m. m ≤ k) (header_count bytes enough n e) h)
-    go (Err r) e = refl
+    go : (x : Result ℕ Refusal) → result_behind k x bytes ≡ after_header x bytes
+    go (Ok n) = all_cards (stored_in bytes) (cards_in bytes) k (omega (arith, cards_counted bytes))
+    go (Err r) = refl

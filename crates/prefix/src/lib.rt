@@ -2,24 +2,30 @@
 #![tactic(auto)]
 
 ghost use Rattle.std.specs.Prelude.{◌≡◌, ◌≤◌, length};
-ghost use Rattle.std.specs.List.{concat};
-ghost use Rattle.cards.specs.Register.{cards_from};
+ghost use Rattle.cards.specs.Register.{cards_from, settled};
 ghost use Rattle.prefix.specs.Prefix.{result_after, prefix_of};
 ghost use Rattle.prefix.specs.Claim.{Keeps};
 
+use cards::held_to;
 use farthest::Leaders;
+use header::Stored;
 use refusals::SentBack;
 use walk::Nothing;
 
-// The running values of the one walk, where it has passed the first cards. It then goes on through the others, since a register is
-// accepted as a whole or not at all.
-fn leaders_at(cards: &[[u8; 24]], first: usize) -> Result<Leaders, SentBack<u32>>
+// The leaders of the first cards, from the running values of the one walk where it has passed them. It then goes on through the others,
+// and holds the stored distances to the leaders of them all, since a register is accepted as a whole or not at all.
+fn leaders_at(
+    cards: &[[u8; 24]],
+    stored: Option<Stored>,
+    first: usize,
+) -> Result<Leaders, SentBack<u32>>
     requires { (first ≤ length cards.now) × (length cards.now ≤ 2000) }
-    ensures { result ≡ result_after first (cards_from (length cards.now) 0 0 (concat cards.now)) }
+    ensures { result ≡ result_after first (settled stored (cards_from 0 0 cards.now)) }
 {
     let (front, behind) = cards.split_at(first);
     let (running, _) = walk::through::<Nothing>(front, &mut [])?;
-    walk::along::<Nothing>(behind, running, &mut [])?;
+    let (whole, _) = walk::along::<Nothing>(behind, running, &mut [])?;
+    held_to(stored, whole.leaders)?;
     Ok(running.leaders)
 }
 
@@ -31,5 +37,5 @@ pub fn leaders_after(register: &[u8], k: usize) -> Result<Leaders, SentBack<u32>
 {
     header::header_of(register, header::ENOUGH)?;
     let cards = header::cards_of(register);
-    leaders_at(cards, k.min(cards.len()))
+    leaders_at(cards, header::stored_of(register), k.min(cards.len()))
 }

@@ -1,13 +1,11 @@
 // The strict lines of a register's cards: how long they are, and each behind the one before it into a lent buffer.
 #![tactic(auto)]
 
-ghost use Rattle.std.specs.Prelude.{◌≡◌, ◌≤◌, [], ◌∷◌, ◌++◌, length};
-ghost use Rattle.std.specs.List.{concat};
+ghost use Rattle.std.specs.Prelude.{◌≡◌, ◌≤◌, [], ◌∷◌, ◌++◌, map, length};
 ghost use Rattle.std.proofs.lemmas.List.Edits.{sets};
 ghost use Rattle.buffer.specs.Wrote.{Wrote};
 ghost use Rattle.fields.specs.Layout.{fields_of};
-ghost use Rattle.comma.specs.Strict.{strict_line};
-ghost use Rattle.strict_lines.specs.Walk.{lines_to};
+ghost use Rattle.comma.specs.Strict.{strict_line, strict_lines};
 
 use buffer::Writer;
 
@@ -25,7 +23,7 @@ fn line_of(card: &[u8], line: &mut [u8]) -> usize
 // How long the text is.
 pub fn text_size(cards: &[[u8; 24]], line: &mut [u8]) -> usize
     requires { (length cards.now ≤ 2000) × (256 ≤ length line.old) }
-    ensures { result ≡ length (lines_to (length cards.now) (concat cards.now)) }
+    ensures { result ≡ length (strict_lines (map fields_of cards.now)) }
 {
     let mut size = 0usize;
     for card in cards {
@@ -36,8 +34,8 @@ pub fn text_size(cards: &[[u8; 24]], line: &mut [u8]) -> usize
 
 // The lines one behind the other, where there is room for all.
 pub fn put_lines(cards: &[[u8; 24]], line: &mut [u8], out: &mut [u8])
-    requires { (length cards.now ≤ 2000) × (256 ≤ length line.old) × (length (lines_to (length cards.now) (concat cards.now)) ≤ length out.old) }
-    ensures { out.new ≡ sets out.old 0 (lines_to (length cards.now) (concat cards.now)) }
+    requires { (length cards.now ≤ 2000) × (256 ≤ length line.old) × (length (strict_lines (map fields_of cards.now)) ≤ length out.old) }
+    ensures { out.new ≡ sets out.old 0 (strict_lines (map fields_of cards.now)) }
 {
     let mut written = Writer { bytes: out, at: 0 };
     for card in cards {

@@ -1,11 +1,11 @@
 -- What acceptance says of a register: what stands in its header, that the writer takes it, and that none of its cards' meanings
 -- is a refusal.
 -- Assumes nothing.
-use Rattle.std.specs.Prelude.{ℕ, zero, suc, ◌+◌, ◌*◌, ◌≤◌, ◌≡◌, refl, List, [], ◌∷◌, length, take, drop, Result, Ok, Err}
+use Rattle.std.specs.Prelude.{ℕ, suc, ◌≡◌, refl, false, List, [], ◌∷◌, map, length, Result, Ok, Err}
 use Rattle.std.proofs.Common.{arith, subst}
 use Rattle.std.proofs.lemmas.Bool.Decides.{nat_tests}
 use Rattle.search.specs.Laws.{clash}
-use Rattle.buffer.specs.Numbers.{byte_at, four_at}
+use Rattle.buffer.specs.Numbers.{four_at}
 use Rattle.fields.specs.declared.Fields.{Fields}
 use Rattle.fields.specs.Layout.{fields_of}
 use Rattle.refusals.specs.declared.Refusal.{Refusal}
@@ -13,37 +13,33 @@ use Rattle.meaning.specs.Reading.{meaning_of}
 use Rattle.card.specs.declared.Answer.{Answer}
 use Rattle.card.specs.Answers.{answer_of}
 use Rattle.card.specs.Number.{answer_number}
-use Rattle.header.specs.Header.{enough, count_of, bad_length, bad_version, bad_count, header_of}
+use Rattle.header.specs.Header.{enough, count_of, cards_in, bad_length, header_of, Fitting}
 use Rattle.cards.specs.Register.{answers, then, cards_from, outcome_of}
-use Rattle.cards.proofs.Laws.{joined_is}
+use Rattle.cards.proofs.Laws.{joined_is, accepted_fits}
 use Rattle.ordering.proofs.Found.{any_room, found}
-use Rattle.comma.specs.Strict.{fields_from}
-use Rattle.write_lines.specs.Writing.{fields_of_register}
-use Rattle.texts.specs.Claim.{Accepted}
+use Rattle.write_lines.specs.Writing.{fields_of_register, other_version, writable}
+use Rattle.texts.specs.Claim.{Accepted, Writable}
 
 -- ---- the header
 
--- what the header says of a register that checks 1 to 3 let pass
-pub record Headed (register : List ℕ) : Type 0 where
-  pub whole : four_at register 0 ≡ length register
-  pub version : byte_at register 4 ≡ 1
-  pub few : count_of register ≤ 2_000
-  pub long : length register ≡ 7 + 24 * count_of register
+-- what the header of an accepted register says, whatever its version
+pub headed : (register : List ℕ) (a : Accepted register) → Fitting register (length a.0) (count_of register)
+headed register a = accepted_fits register (length a.0) a.1 a.2
 
--- an accepted register is one
-pub headed : (register : List ℕ) → Accepted register → Headed register
-unfolding outcome_of header_of bad_length bad_version bad_count
-headed register (buffer, leaders, e) =
-    record {
-      whole = grind (arith, nat_tests, e);
-      version = grind (arith, nat_tests, e);
-      few = grind (arith, nat_tests, e);
-      long = grind (arith, nat_tests, e);
-    }
+good_length : (register : List ℕ) → Accepted register → bad_length register ≡ false
+unfolding outcome_of header_of
+good_length register (buffer, leaders, e) = grind (arith, e)
 
--- the writer, who is lent no answer buffer, takes it
-pub taken : (register : List ℕ) (a : Accepted register) → outcome_of register enough ≡ Ok a.1
-taken register a = any_room register (length a.0) enough a.2 (omega (arith, (headed register a).few))
+pub length_field : (register : List ℕ) → Accepted register → four_at register 0 ≡ length register
+unfolding bad_length
+length_field register a = grind (arith, nat_tests, good_length register a)
+
+-- the writer, who is lent no answer buffer, takes a register of version 1
+pub taken : (register : List ℕ) (w : Writable register) → writable register ≡ Ok w.0.1
+unfolding writable other_version
+taken register w =
+    rw (good_length register w.0, w.1)
+    (any_room register (length w.0.0) enough w.0.2 (omega (arith, (headed register w.0).cards)))
 
 -- ---- the cards
 
@@ -58,20 +54,20 @@ unfolding answer_of
 answered_means card last e r m = clash (cc)
 
 -- so have cards that are all answered
-answers_mean : (n place last : ℕ) (bytes : List ℕ) (xs : List Answer) → cards_from n place last bytes ≡ answers xs → AllMean last (fields_from n bytes)
-unfolding cards_from fields_from
-answers_mean zero place last bytes xs e = tt
-answers_mean (suc n) place last bytes xs e =
-    go (answer_of (take 24 bytes) last) refl (λ k ys. answers_mean n (suc place) k (drop 24 bytes) ys) e
+answers_mean : (place last : ℕ) (cards : List (List ℕ)) (xs : List Answer) → cards_from place last cards ≡ answers xs → AllMean last (map fields_of cards)
+unfolding cards_from
+answers_mean place last [] xs e = tt
+answers_mean place last (card ∷ rest) xs e =
+    go (answer_of card last) refl (λ k ys. answers_mean (suc place) k rest ys) e
   where
-    go : (x : Result Answer Refusal) → answer_of (take 24 bytes) last ≡ x
-        → ((k : ℕ) (ys : List Answer) → cards_from n (suc place) k (drop 24 bytes) ≡ answers ys → AllMean k (fields_from n (drop 24 bytes)))
-        → then x place (λ k. cards_from n (suc place) k (drop 24 bytes)) ≡ answers xs
-        → AllMean last (fields_of (take 24 bytes) ∷ fields_from n (drop 24 bytes))
+    go : (x : Result Answer Refusal) → answer_of card last ≡ x
+        → ((k : ℕ) (ys : List Answer) → cards_from (suc place) k rest ≡ answers ys → AllMean k (map fields_of rest))
+        → then x place (λ k. cards_from (suc place) k rest) ≡ answers xs
+        → AllMean last (fields_of card ∷ map fields_of rest)
     go (Ok a) p ih q =
-        let j = joined_is a (cards_from n (suc place) a.number (drop 24 bytes)) q in (
-          answered_means (take 24 bytes) last p,
-          subst (λ k. AllMean k (fields_from n (drop 24 bytes))) (answer_number (take 24 bytes) last p) (ih a.number j.0 j.1),
+        let j = joined_is a (cards_from (suc place) a.number rest) q in (
+          answered_means card last p,
+          subst (λ k. AllMean k (map fields_of rest)) (answer_number card last p) (ih a.number j.0 j.1),
         )
     go (Err r) p ih q = clash (cc)
 
@@ -80,4 +76,4 @@ pub all_mean : (register : List ℕ) → Accepted register → AllMean 0 (fields
 unfolding fields_of_register
 all_mean register a =
     let f = found register (length a.0) a.2 in
-    answers_mean (count_of register) 0 0 (drop 7 register) f.list f.cards
+    answers_mean 0 0 (cards_in register) f.list f.cards

@@ -1,6 +1,6 @@
 -- The longest strict line of an accepted register has 59 bytes with its line feed (`Claim.antt`).
 -- Assumes nothing.
-use Rattle.std.specs.Prelude.{ℕ, ◌*◌, ◌-◌, ◌^◌, ◌≤◌, ◌<◌, ◌≡◌, refl, List, [], ◌∷◌, ◌⊎◌, ltb, length, drop, replicate, Some, None}
+use Rattle.std.specs.Prelude.{ℕ, ◌*◌, ◌-◌, ◌^◌, ◌≤◌, ◌<◌, ◌≡◌, refl, List, [], ◌∷◌, ◌⊎◌, ltb, length, replicate, Some, None}
 use Rattle.farthest.specs.Farthest.{leader}
 use Rattle.std.proofs.Common.{arith, inl, inr, length-append, ltb-true}
 use Rattle.search.specs.Places.{look_up}
@@ -27,15 +27,16 @@ use Rattle.meaning.specs.Reading.{bad_number, substance_of, toxic_meaning, meani
 use Rattle.meaning.specs.Ranges.{Ranged, ranged}
 use Rattle.card.specs.Answers.{answer_of}
 use Rattle.farthest.specs.Farthest.{leaders_after, leaders_from, leaders_of}
-use Rattle.header.specs.Header.{count_of, bad_length, bad_version, bad_count, bad_buffer, header_of}
+use Rattle.header.specs.Header.{layout_of, layout_in, stored_in, cards_in, bad_length, bad_version, bad_count, bad_buffer, header_of}
+use Rattle.cards.specs.Distances.{wrong_for}
 use Rattle.cards.specs.Register.{cards_from, cards_of, outcome_of}
 use Rattle.comma.specs.Text.{card_bytes, bytes_of, header_bytes, register_of}
-use Rattle.comma.specs.Strict.{cas_text, heat_text, tenths_text, field_texts, strict_line, strict_lines, fields_from}
+use Rattle.comma.specs.Strict.{cas_text, heat_text, tenths_text, field_texts, strict_line, strict_lines}
 use Rattle.comma.proofs.StrictLaws.{AllFitting, cas_short, heat_cases, tenths_cases}
 use Rattle.comma.specs.CardLaws.{AllBytes}
-use Rattle.comma.proofs.CardLaws.{from_length}
+use Rattle.comma.proofs.CardLaws.{register_counted}
 use Rattle.write_lines.specs.Writing.{fields_of_register, strict_text}
-use Rattle.texts.specs.Claim.{Accepted, Longest, Reached}
+use Rattle.texts.specs.Claim.{Writable, Longest, Reached}
 use Rattle.texts.proofs.Accepted.{AllMean, all_mean}
 use Rattle.texts.proofs.Told.{told_accepted}
 
@@ -91,7 +92,7 @@ longest register all a =
     omega (
       arith,
       lines_length 0 cards (told_accepted register all a).fit (all_mean register a),
-      from_length (count_of register) (drop 7 register),
+      register_counted register,
     )
 
 -- ---- 59 is reached
@@ -120,11 +121,11 @@ widest_bytes : AllBytes widest
 unfolding widest
 widest_bytes i = ltb-true _ 256 (every_at (λ b. ltb b 256) widest 0 refl refl i)
 
-widest_accepted : Accepted widest
-unfolding widest outcome_of header_of bad_length bad_version bad_count bad_buffer cards_of cards_from answer_of fields_of meaning_of bad_number shape_of state_of ground_of held_of toxic_meaning substance_of tenths_of toxic_of look_up b1 b2 bounds_of bad_pounds bad_area bad_wall bad_heat signed plan_of pool_of table_of column_of at_most_ten_minutes diked_area pool_rate reading_of read_in tables answered apart by_row closest closest_column closest_from closest_row distance from_column in_use larger largest last_of smaller thousandths leaders_of leaders_from leaders_after
-widest_accepted =
-    (replicate 16 0, record { toxic = Some (leader 4_294_967_295 (record { 0 = 2_500 })); flammable = None }, refl)
+widest_written : Writable widest
+unfolding widest outcome_of header_of bad_length bad_version bad_count bad_buffer layout_of layout_in stored_in cards_in wrong_for cards_of cards_from answer_of fields_of meaning_of bad_number shape_of state_of ground_of held_of toxic_meaning substance_of tenths_of toxic_of look_up b1 b2 bounds_of bad_pounds bad_area bad_wall bad_heat signed plan_of pool_of table_of column_of at_most_ten_minutes diked_area pool_rate reading_of read_in tables answered apart by_row closest closest_column closest_from closest_row distance from_column in_use larger largest last_of smaller thousandths leaders_of leaders_from leaders_after
+widest_written =
+    ((replicate 16 0, record { toxic = Some (leader 4_294_967_295 (record { 0 = 2_500 })); flammable = None }, refl), refl)
 
 pub reached : Reached
-unfolding widest strict_text fields_of_register fields_from fields_of strict_lines strict_line field_texts closed cas_text heat_text tenths_text digits padded
-reached = (widest, widest_bytes, widest_accepted, refl, refl)
+unfolding widest strict_text fields_of_register layout_of layout_in cards_in fields_of strict_lines strict_line field_texts closed cas_text heat_text tenths_text digits padded
+reached = (widest, widest_bytes, widest_written, refl, refl)

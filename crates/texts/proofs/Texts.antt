@@ -7,13 +7,14 @@ use Rattle.std.proofs.Common.{sym, ap, ◌∙◌, le-ltb}
 use Rattle.std.proofs.Math.Seq.{take-append_seam}
 use Rattle.search.specs.Laws.{clash}
 use Rattle.refusals.specs.declared.Refusal.TheVariants as refusal
+use Rattle.comma.specs.Text.{cards, cards_in}
 use Rattle.comma.specs.Strict.{strict_lines}
 use Rattle.comma.proofs.StrictLaws.{text_written, cards_same, strict_same}
 use Rattle.write_lines.specs.Writing.{fields_of_register, strict_text, answer_as, writing_of, written_as, write_into}
-use Rattle.texts.specs.Claim.{Accepted, ReadAlike, RoundTrip, meanings_of, SameForms, SameBytes, StrictAgain}
+use Rattle.texts.specs.Claim.{Accepted, Writable, ReadAlike, RoundTrip, meanings_of, SameForms, SameBytes, StrictAgain}
 use Rattle.texts.proofs.Accepted.{taken, all_mean}
 use Rattle.texts.proofs.Meanings.{same_cards}
-use Rattle.texts.proofs.Told.{Told, told_accepted, Read, bytes_are, read_is, reads_into}
+use Rattle.texts.proofs.Told.{Told, Back, told_accepted, told_back, Read, bytes_are, read_is, reads_into}
 
 -- ---- "a reader into a lent version 1 register"
 
@@ -22,13 +23,17 @@ read_alike text register r = reads_into text register (read_is text register r)
 
 -- ---- "Reading what was written gives the same register"
 
--- reading a strict text gives the register's cards
-strict_read : (register : List ℕ) → Told register → Read (strict_text register) register
+-- a strict text has the register's cards
+strict_cards : (register : List ℕ) → Told register → cards_in (strict_text register) ≡ cards (fields_of_register register)
 unfolding strict_text
-strict_read register t = record { same = text_written (fields_of_register register) t.fit; told = t }
+strict_cards register t = text_written (fields_of_register register) t.fit
+
+-- so it reads into the register of those
+strict_read : (register : List ℕ) → Told register → Back register → Read (strict_text register) register
+strict_read register t b = record { same = strict_cards register t; told = t; back = b }
 
 -- what the writer writes where it answers a number of bytes is the strict text
-written : (register out : List ℕ) (n : ℕ) → Accepted register → writing_of register (length out) ≡ Ok n
+written : (register out : List ℕ) (n : ℕ) → Writable register → writing_of register (length out) ≡ Ok n
     → take n (write_into register out) ≡ strict_text register
 unfolding writing_of write_into
 written register out n a e =
@@ -44,14 +49,14 @@ written register out n a e =
     go false q = rw (← bytes_are q) (take-append_seam text (drop (length text) out))
 
 -- and it answers one wherever there is room
-writes : (register out : List ℕ) → Accepted register → length (strict_text register) ≤ length out
+writes : (register out : List ℕ) → Writable register → length (strict_text register) ≤ length out
     → writing_of register (length out) ≡ Ok (length (strict_text register))
 unfolding writing_of
 writes register out a h = rw (taken register a, le-ltb (length out) (length (strict_text register)) h, answer_as)
 
 pub round_trip : RoundTrip
 round_trip register all a =
-    let read : Read (strict_text register) register = strict_read register (told_accepted register all a) in
+    let read : Read (strict_text register) register = strict_read register (told_accepted register all a.0) (told_back register all a) in
     record {
       same = λ out n e. reads_into (take n (write_into register out)) register (rw (written register out n a e) read);
       written = λ out h. writes register out a h;
@@ -80,9 +85,9 @@ same_forms s t first second r q a b =
 
 pub same_bytes : SameBytes
 same_bytes first second fa sa a b =
-    let x = told_accepted first fa a in
-    let y = told_accepted second sa b in (
-      λ e. sym x.back ∙ rw (by_meanings first second x y a e) y.back,
+    let x = told_accepted first fa a.0 in
+    let y = told_accepted second sa b.0 in (
+      λ e. sym (told_back first fa a) ∙ rw (by_meanings first second x y a.0 e) (told_back second sa b),
       λ e. ap meanings_of e,
     )
 
@@ -91,5 +96,5 @@ same_bytes first second fa sa a b =
 pub strict_again : StrictAgain
 unfolding strict_text
 strict_again register again all a r =
-    let written_cards = (strict_read register (told_accepted register all a)).same in
-    ap strict_lines (cards_same (sym (read_is (strict_text register) again r).same ∙ written_cards))
+    ap strict_lines
+    (cards_same (sym (read_is (strict_text register) again r).same ∙ strict_cards register (told_accepted register all a)))

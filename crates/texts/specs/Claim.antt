@@ -8,7 +8,7 @@ use Rattle.fields.specs.declared.Fields.{Fields}
 use Rattle.meaning.specs.declared.Meaning.{Meaning}
 use Rattle.meaning.specs.Reading.{meaning_of}
 use Rattle.farthest.specs.declared.Leaders.{Leaders}
-use Rattle.header.specs.Header.{count_of}
+use Rattle.header.specs.Header.{version_of, count_of}
 use Rattle.ordering.specs.Claim.{Accepts}
 use Rattle.comma.specs.Text.{reading_of, read_into}
 use Rattle.comma.specs.CardLaws.{AllBytes}
@@ -17,6 +17,11 @@ use Rattle.write_lines.specs.Writing.{fields_of_register, strict_text, writing_o
 -- Document 01: "A register is accepted if the call that fills the answer buffer gives no refusal for it with some answer buffer"
 abbrev pub Accepted : List ℕ → Type 0
 Accepted register = (buffer : List ℕ) × (leaders : Leaders) × Accepts register buffer leaders
+
+-- The registers that lines are written of: accepted ones of version 1. Document 02, A9: "version 2, which the comma writer refuses
+-- with 2".
+abbrev pub Writable : List ℕ → Type 0
+Writable register = Accepted register × (version_of register ≡ 1)
 
 -- "a reader into a lent version 1 register": with some lent buffer the reader says how many bytes it wrote, and they are this
 -- register's
@@ -46,9 +51,9 @@ pub record ReadAgain (register : List ℕ) : Type 0 where
   pub written : (out : List ℕ) → length (strict_text register) ≤ length out
       → writing_of register (length out) ≡ Ok (length (strict_text register))
 
--- so for every accepted register; its bytes are bytes, each below 256
+-- so for every register that lines are written of; its bytes are bytes, each below 256
 abbrev pub RoundTrip : Type 0
-RoundTrip = (register : List ℕ) → AllBytes register → Accepted register → ReadAgain register
+RoundTrip = (register : List ℕ) → AllBytes register → Writable register → ReadAgain register
 
 -- what a card says: its meaning by document 01, and its number
 pub record Meant : Type 0 where
@@ -70,13 +75,14 @@ SameForms =
     (s t first second : List ℕ) → Reads s first → Reads t second → Accepted first → Accepted second
     → (strict_text first ≡ strict_text second) ↔ (meanings_of first ≡ meanings_of second)
 
--- For accepted registers equal meanings are equal bytes.
+-- For registers that lines are written of equal meanings are equal bytes.
 abbrev pub SameBytes : Type 0
 SameBytes =
-    (first second : List ℕ) → AllBytes first → AllBytes second → Accepted first → Accepted second
+    (first second : List ℕ) → AllBytes first → AllBytes second → Writable first → Writable second
     → (meanings_of first ≡ meanings_of second) ↔ (first ≡ second)
 
--- "one strict way of writing lines": the strict text of what a strict text reads into is that text again.
+-- "one strict way of writing lines": the strict text of what a strict text reads into is that text again. (This and the next also hold
+-- of a register that stores distances, although the writer refuses it: its cards have a strict text.)
 abbrev pub StrictAgain : Type 0
 StrictAgain =
     (register again : List ℕ) → AllBytes register → Accepted register → Reads (strict_text register) again
@@ -87,8 +93,8 @@ StrictAgain =
 abbrev pub Longest : Type 0
 Longest = (register : List ℕ) → AllBytes register → Accepted register → length (strict_text register) ≤ 59 * count_of register
 
--- 59 is reached: an accepted register of one card has as many.
+-- 59 is reached: a register of one card that lines are written of has as many.
 abbrev pub Reached : Type 0
 Reached =
-    (register : List ℕ) × AllBytes register × Accepted register × (count_of register ≡ 1)
+    (register : List ℕ) × AllBytes register × Writable register × (count_of register ≡ 1)
     × (length (strict_text register) ≡ 59)

@@ -1,28 +1,32 @@
--- How many cards an accepted register has, and that their text is the register's.
+-- A register that the writer takes: how many cards it has, and that their text is the register's.
 -- Assumes nothing.
-use Rattle.std.specs.Prelude.{ℕ, ◌+◌, ◌*◌, ◌≤◌, ◌≡◌, List, length, drop, Result, Ok}
-use Rattle.std.specs.List.{concat}
-use Rattle.std.proofs.Common.{arith, ◌∙◌, sym, ap₂}
-use Rattle.buffer.specs.Numbers.{two_at}
+use Rattle.std.specs.Prelude.{ℕ, ◌≤◌, ◌≡◌, List, map, length, Result, Ok}
+use Rattle.std.proofs.Common.{arith, ap}
 use Rattle.refusals.specs.declared.SentBack.{SentBack}
 use Rattle.farthest.specs.declared.Leaders.{Leaders}
-use Rattle.header.specs.Header.{enough, Fitting}
+use Rattle.fields.specs.Layout.{fields_of}
+use Rattle.header.specs.Header.{count_of, cards_in, enough, Whole, Fitting}
+use Rattle.header.proofs.Cards.{cards_counted}
 use Rattle.cards.specs.Register.{outcome_of}
 use Rattle.cards.proofs.Laws.{accepted_fits}
-use Rattle.strict_lines.specs.Walk.{lines_to}
-use Rattle.write_lines.specs.Writing.{fields_of_register, strict_text}
+use Rattle.comma.specs.Strict.{strict_lines}
+use Rattle.write_lines.specs.Writing.{strict_text, fields_of_register, writable}
 
 -- the text of a register's cards, as the code takes them, is the register's
-pub text_is : (bytes : List ℕ) (cards : List (List ℕ)) → length cards ≡ two_at bytes 5 → concat cards ≡ drop 7 bytes → lines_to (length cards) (concat cards) ≡ strict_text bytes
-unfolding lines_to strict_text fields_of_register
-text_is bytes cards k b = ap₂ lines_to k b
+pub text_is : (bytes : List ℕ) (cards : List (List ℕ)) → cards ≡ cards_in bytes → strict_lines (map fields_of cards) ≡ strict_text bytes
+unfolding strict_text fields_of_register
+text_is bytes cards c = ap (λ (xs : List (List ℕ)). strict_lines (map fields_of xs)) c
 
-module _ (bytes : List ℕ) (x : Result Leaders (SentBack ℕ)) (l : Leaders) (e : x ≡ outcome_of bytes enough) (q : x ≡ Ok l) where
-  fits : Fitting bytes enough (two_at bytes 5)
-  fits = accepted_fits bytes enough l (sym e ∙ q)
+module _ (bytes : List ℕ) (x : Result Leaders (SentBack ℕ)) (l : Leaders) (e : x ≡ writable bytes) (q : x ≡ Ok l) where
+  accepts : outcome_of bytes enough ≡ Ok l
+  unfolding writable
+  accepts = grind (arith, e, q)
 
-  pub accepted_length : length bytes ≡ 7 + 24 * two_at bytes 5
-  accepted_length = fits.register
+  fits : Fitting bytes enough (count_of bytes)
+  fits = accepted_fits bytes enough l accepts
 
-  pub accepted_count : (cards : List (List ℕ)) → length cards ≡ two_at bytes 5 → length cards ≤ 2_000
-  accepted_count cards k = omega (arith, fits.cards, k)
+  pub taken_whole : Whole bytes
+  taken_whole = fits.whole
+
+  pub taken_count : (cards : List (List ℕ)) → cards ≡ cards_in bytes → length cards ≤ 2_000
+  taken_count cards c = omega (arith, fits.cards, cards_counted bytes, ap length c)

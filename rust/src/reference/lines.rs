@@ -7,8 +7,9 @@
 mod tests;
 
 use super::card::{Fields, Tenths, SOLUTION};
+use super::header::{header_1, Register, HEADER_LEN};
 use super::units::Concentration;
-use super::{answers, card_bytes, Fault, Refused, CARD_LEN, HEADER_LEN, MAX_CARDS, VERSION};
+use super::{answers, Fault, Refused, CARD_LEN, MAX_CARDS};
 
 /// The most bytes of a line, without its line feed.
 pub const MAX_LINE: usize = 200;
@@ -26,16 +27,16 @@ pub fn read_lines(text: &[u8], register: &mut [u8]) -> Result<usize, Refused> {
         return Err(Fault::Room.of_register());
     }
     let (header, behind) = register.split_at_mut(HEADER_LEN);
-    header.copy_from_slice(&header_of(&cards));
+    header.copy_from_slice(&header_1(&cards));
     behind[..cards.len()].copy_from_slice(&cards);
     Ok(length)
 }
 
 /// Writes an accepted register as comma lines in their one strict form at the start of `text`, and gives their length.
 ///
-/// Bytes of `text` behind them are left alone, and so is all of it on refusal.
+/// Bytes of `text` behind them are left alone, and so is all of it on refusal. By request A9 none but version 1 is written.
 pub fn write_lines(register: &[u8], text: &mut [u8]) -> Result<usize, Refused> {
-    let cards = card_bytes(register)?;
+    let Register { cards, .. } = Register::read_version_1(register)?;
     // The answers are not asked for, but whether there are any: only an accepted register is written.
     answers(cards)?;
     let lines = strict_lines(cards);
@@ -57,13 +58,6 @@ fn read_cards(text: &[u8]) -> Result<Vec<u8>, Refused> {
 /// The lines of a text without their line feeds. The last may do without one; no bytes are no lines.
 fn lines(text: &[u8]) -> impl Iterator<Item = &[u8]> {
     text.split_inclusive(|&byte| byte == b'\n').map(|line| line.strip_suffix(b"\n").unwrap_or(line))
-}
-
-/// The header of a register with these cards, which are not too many.
-fn header_of(cards: &[u8]) -> [u8; HEADER_LEN] {
-    let [l0, l1, l2, l3] = ((HEADER_LEN + cards.len()) as u32).to_be_bytes();
-    let [c0, c1] = ((cards.len() / CARD_LEN) as u16).to_be_bytes();
-    [l0, l1, l2, l3, VERSION, c0, c1]
 }
 
 /// The ten numbers of a line that has eleven well-formed fields and is not too long.

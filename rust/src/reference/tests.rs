@@ -3,7 +3,7 @@
 
 use super::{answer, exact_rate, is_old, leaders_after, listing, Accepted, Farthest, Fraction, Refused};
 use super::{ANSWER_LEN, CARD_LEN, HEADER_LEN, MAX_CARDS, MAX_LEN};
-use crate::samples::{accepted_register, register, Card, Rng};
+use crate::samples::{accepted_register, cards_of, register, stored_register, Card, Rng};
 use std::ops::Range;
 
 const AMMONIA: u32 = 7_664_417;
@@ -133,7 +133,7 @@ fn a_listing_tells_refusals_and_long_inputs() {
 #[test]
 fn the_examples_of_refusals() {
     assert_eq!(refusal(&[0, 0, 0, 8, 1, 0, 0]), Some((1, 0)));
-    assert_eq!(refusal(&[0, 0, 0, 7, 2, 0, 0]), Some((2, 0)));
+    assert_eq!(refusal(&[0, 0, 0, 7, 9, 0, 0]), Some((2, 0)));
     assert_eq!(refusal(&[0, 0, 0, 7, 1, 0, 1]), Some((3, 0)));
     let four_four = [numbered(chlorine(RURAL, 1), 4), numbered(chlorine(RURAL, 1), 4)];
     assert_eq!(refusal(&register(&four_four)), Some((5, 1)));
@@ -288,10 +288,86 @@ fn beyond_the_count_all_cards_are_the_first() {
     }
 }
 
+/// Document 01's example in version 2, with two stored distances.
+fn stored_example(distances: [u16; 2]) -> Vec<u8> {
+    stored_register(cards_of(&example()), distances)
+}
+
+#[test]
+fn version_2_is_answered_led_and_listed_like_version_1() {
+    let stored = stored_example([180, 18]);
+    assert_eq!(stored.len(), 83);
+    assert_eq!(listing(&stored), listing(&example()));
+    let (mut first, mut second) = ([0xa5; 50], [0xa5; 50]);
+    assert_eq!(answer(&stored, &mut second), answer(&example(), &mut first));
+    assert_eq!(first, second);
+    for cards in [0, 1, 2, 3, 4, usize::MAX] {
+        assert_eq!(leaders_after(&stored, cards), leaders_after(&example(), cards));
+    }
+    assert_eq!(listing(&stored_register(&[], [0, 0])), "T none\nF none\n");
+}
+
+#[test]
+fn a_wrong_stored_distance_is_3_and_changes_no_byte() {
+    let wrong = [[0, 18], [180, 0], [0, 0], [18, 180], [179, 18], [181, 18], [180, 17], [180, 19], [u16::MAX; 2]];
+    for distances in wrong {
+        let mut out = [0xa5; 50];
+        assert_eq!(answer(&stored_example(distances), &mut out), Err(Refused { number: 3, place: 0 }));
+        assert_eq!(out, [0xa5; 50]);
+        assert_eq!(listing(&stored_example(distances)), "refused 3 at 0\n");
+    }
+    // A class without cards stores zero.
+    assert_eq!(refusal(&stored_register(&[], [1, 0])), Some((3, 0)));
+    assert_eq!(refusal(&stored_register(&[], [0, 1])), Some((3, 0)));
+}
+
+#[test]
+fn a_wrong_stored_distance_is_hidden_by_4_and_by_a_card() {
+    let short = answer(&stored_example([0, 0]), &mut [0; 3 * ANSWER_LEN - 1]);
+    assert_eq!(short, Err(Refused { number: 4, place: 0 }));
+    let beyond = numbered(toxic(AMMONIA, 3, URBAN, 7_500_010), 2);
+    let cards = [chlorine(RURAL, 2_249), beyond].map(|card| card.bytes());
+    for toxic in [0, 300, 301] {
+        assert_eq!(refusal(&stored_register(&cards, [toxic, 0])), Some((11, 1)));
+    }
+}
+
+#[test]
+fn version_2_has_a_length_of_its_own() {
+    // Seven to ten bytes have room for no distances, and are long enough for number 1.
+    for length in 7..11 {
+        let mut short = vec![0, 0, 0, length, 2];
+        short.resize(usize::from(length), 0);
+        assert_eq!(refusal(&short), Some((3, 0)), "{length} bytes");
+    }
+    assert_eq!(refusal(&[0, 0, 0, 6, 2, 0]), Some((1, 0)));
+    assert_eq!(refusal(&[0, 0, 0, 11, 2, 0, 0, 0, 0, 0, 0]), None);
+    assert_eq!(refusal(&[0, 0, 0, 11, 2, 0, 1, 0, 0, 0, 0]), Some((3, 0)));
+    assert_eq!(refusal(&[0, 0, 0, 12, 2, 0, 0, 0, 0, 0, 0, 0]), Some((3, 0)));
+    for version in (0..=u8::MAX).filter(|version| ![1, 2].contains(version)) {
+        assert_eq!(refusal(&[0, 0, 0, 11, version, 0, 0, 0, 0, 0, 0]), Some((2, 0)), "version {version}");
+    }
+    // The bytes of version 1 do not become those of version 2 by its byte.
+    let mut relabelled = example();
+    relabelled[4] = 2;
+    assert_eq!(refusal(&relabelled), Some((3, 0)));
+}
+
+#[test]
+fn the_longest_register_is_of_version_2() {
+    let cards = (1..=MAX_CARDS as u32).map(|number| numbered(flammable(PROPANE, 10_000), number).bytes());
+    let cards: Vec<_> = cards.collect();
+    let longest = stored_register(&cards, [0, 18]);
+    assert_eq!((longest.len(), MAX_LEN), (48_011, 48_011));
+    assert!(listing(&longest).ends_with("\nT none\nF 1 0.18\n"));
+    let one_more = stored_register(&[cards.as_slice(), &cards[..1]].concat(), [0, 18]);
+    assert_eq!(refusal(&one_more), Some((3, 0)));
+}
+
 #[test]
 fn a_refused_register_has_no_leaders() {
     let second_lacks_pounds = register(&[chlorine(RURAL, 1), numbered(chlorine(RURAL, 0), 2)]);
-    let other_version = [0, 0, 0, 7, 2, 0, 0];
+    let other_version = [0, 0, 0, 7, 9, 0, 0];
     for cards in [0, 1, 2, 3, usize::MAX] {
         assert_eq!(leaders_after(&second_lacks_pounds, cards), Err(Refused { number: 8, place: 1 }));
         assert_eq!(leaders_after(&other_version, cards), Err(Refused { number: 2, place: 0 }));

@@ -11,8 +11,8 @@ use crate::lent::hex;
 use crate::{random_case_of_blasts, Comparison, Refusals, LEAST_OF_EACH, SEED};
 use rings_second::proved;
 use rings_second::reference::printed::printed;
-use rings_second::reference::{self, Refused, ANSWER_LEN, CARD_LEN, HEADER_LEN, MAX_CARDS};
-use rings_second::samples::{self, blasts::exact_quantities, Card, Rng, MAX_POUNDS};
+use rings_second::reference::{self, Refused, ANSWER_LEN, MAX_CARDS};
+use rings_second::samples::{self, blasts::exact_quantities, cards_of, Card, Rng, MAX_POUNDS};
 use std::collections::BTreeMap;
 
 const REGISTERS: usize = 100_000;
@@ -168,7 +168,7 @@ impl Blasts {
 
     fn compare(&mut self, register: &[u8], buffer_len: usize) -> Option<Refused> {
         let refused = self.comparison.compare(register, buffer_len);
-        let cards = register.get(HEADER_LEN..).unwrap_or_default().chunks_exact(CARD_LEN);
+        let cards = cards_of(register).iter();
         match refused {
             Some(refused) => self.count_refused(refused, cards.map(|card| card[0]).collect()),
             None => {

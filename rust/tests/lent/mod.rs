@@ -91,6 +91,40 @@ impl Lent {
     }
 }
 
+/// For edits, which change in a buffer what it holds; the comparison of texts has none.
+#[allow(dead_code)]
+impl Lent {
+    /// Makes both buffers a length, and lets them start with the same bytes, as many of them as there is room for.
+    pub fn fill_behind(&mut self, rng: &mut Rng, length: usize, start: &[u8]) {
+        self.fill(rng, length);
+        let taken = start.len().min(length);
+        for buffer in [&mut self.before, &mut self.ours, &mut self.theirs] {
+            buffer[MARGIN..MARGIN + taken].copy_from_slice(&start[..taken]);
+        }
+    }
+
+    /// What both buffers held before the call.
+    pub fn before(&self) -> &[u8] {
+        &self.before[self.range()]
+    }
+
+    /// Whether all bytes around the proved library's buffer are what they were.
+    pub fn kept_around(&self) -> bool {
+        let Range { start, end } = self.range();
+        self.theirs[..start] == self.before[..start] && self.theirs[end..] == self.before[end..]
+    }
+
+    /// Whether the proved library's buffer, and all bytes around it, are what they were.
+    pub fn kept_all(&self) -> bool {
+        self.theirs == self.before
+    }
+
+    /// Takes what the buffers hold now, both the same, as what they hold before the next call.
+    pub fn go_on(&mut self) {
+        self.before.clone_from(&self.theirs);
+    }
+}
+
 /// A call that converts one buffer into another, by both implementations.
 pub struct Conversion {
     name: &'static str,

@@ -5,10 +5,11 @@
 //! are the farthest of a register of those cards alone, and any other register is sent back as that call sends it back.
 
 use crate::lent::hex;
-use crate::{random_case, random_case_of_sheds, random_case_of_solutions, spoil, words, LEAST_OF_EACH, SEED};
+use crate::{in_version_2, random_case, random_case_of_sheds, random_case_of_solutions, spoil, words};
+use crate::{LEAST_OF_EACH, SEED};
 use rings_second::proved;
-use rings_second::reference::{self, Accepted, Farthest, Refused, ANSWER_LEN, CARD_LEN, HEADER_LEN, MAX_CARDS};
-use rings_second::samples::{self, Card, Rng};
+use rings_second::reference::{self, Accepted, Farthest, Refused, ANSWER_LEN, CARD_LEN, MAX_CARDS};
+use rings_second::samples::{self, cards_of, Card, Rng};
 
 const REGISTERS: usize = 150_000;
 const REGISTERS_OF_SOLUTIONS: usize = 30_000;
@@ -75,7 +76,7 @@ impl Prefixes {
     }
 
     fn compare(&mut self, rng: &mut Rng, register: &[u8]) {
-        let count = register.len().saturating_sub(HEADER_LEN) / CARD_LEN;
+        let count = cards_of(register).len();
         let whole = reference::answer(register, &mut self.answers);
         self.registers += 1;
         self.long += usize::from(count > SHORT);
@@ -95,7 +96,7 @@ impl Prefixes {
     }
 
     fn count(&mut self, register: &[u8], cards: usize, leaders: Accepted, whole: Accepted) {
-        let count = (register.len() - HEADER_LEN) / CARD_LEN;
+        let count = cards_of(register).len();
         self.accepted += 1;
         self.none += usize::from(cards == 0);
         self.some += usize::from(cards > 0 && cards < count);
@@ -112,7 +113,7 @@ impl Prefixes {
 
     /// Whether several of the first cards of a kind have its leader's distance, by the answers of the whole register.
     fn is_tied(&self, register: &[u8], cards: usize, kind: u8, leader: Option<Farthest>) -> bool {
-        let kinds = register[HEADER_LEN..].iter().step_by(CARD_LEN);
+        let kinds = cards_of(register).iter().map(|card| &card[0]);
         let distances = self.answers.chunks_exact(ANSWER_LEN).map(miles);
         let as_far = |(of, miles): &(&u8, u16)| **of == kind && leader.is_some_and(|leader| leader.miles == *miles);
         kinds.zip(distances).take(cards).filter(as_far).count() > 1
@@ -176,13 +177,9 @@ fn answer_words(register: &[u8], untouched: (u64, u64)) -> (u64, u64, u64) {
     (code, toxic, flammable)
 }
 
-/// A register of the first cards of another alone.
+/// A register of the first cards of another alone, of version 1, since version 2 stores the distances of all.
 fn first_cards(register: &[u8], cards: usize) -> Vec<u8> {
-    let length = HEADER_LEN + cards * CARD_LEN;
-    let mut first = register[..length].to_vec();
-    first[..4].copy_from_slice(&(length as u32).to_be_bytes());
-    first[5..HEADER_LEN].copy_from_slice(&(cards as u16).to_be_bytes());
-    first
+    samples::register_of_bytes(&cards_of(register)[..cards])
 }
 
 /// A long register: one in two has the nearest cards first, so that the leaders change up to the end, and one in three
@@ -198,7 +195,11 @@ fn long_register(rng: &mut Rng) -> Vec<u8> {
     if rng.one_in(3) {
         spoil(rng, &mut cards);
     }
-    samples::register(&cards)
+    let register = samples::register(&cards);
+    if rng.one_in(3) {
+        return in_version_2(rng, &register);
+    }
+    register
 }
 
 /// The distance of an accepted card, in hundredths of a mile.

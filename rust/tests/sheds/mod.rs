@@ -7,8 +7,8 @@
 
 use crate::{random_case_of_sheds, Comparison, Refusals, LEAST_OF_EACH, SEED};
 use rings_second::reference::printed::{printed, Toxic};
-use rings_second::reference::{Refused, ANSWER_LEN, CARD_LEN, HEADER_LEN};
-use rings_second::samples::{self, Card, Rng};
+use rings_second::reference::{Refused, ANSWER_LEN};
+use rings_second::samples::{self, cards_of, Card, Rng};
 use rings_second::samples::{BUILDING, MAX_AREA, MAX_POUNDS, MAX_WALL, SHED_WITH_DOORS, SOLUTION};
 use std::collections::BTreeMap;
 
@@ -19,9 +19,9 @@ const LEAST_WITH_SHEDS: usize = 400_000;
 /// Of cases that few cards can be.
 const LEAST_OF_SELDOM: usize = 10;
 
-/// The refusals that no shed is answered with: 12 and 13 are of comma lines alone, 17 and 18 of likely scenarios, and a wall
-/// is 6, whatever its height.
-const NOT_OF_SHEDS: [usize; 5] = [12, 13, 14, 17, 18];
+/// The refusals that no shed is answered with: 12 and 13 are of comma lines alone, 17 and 18 of likely scenarios, 19 and 20 of
+/// edits, and a wall is 6, whatever its height.
+const NOT_OF_SHEDS: [usize; 7] = [12, 13, 14, 17, 18, 19, 20];
 
 #[test]
 fn sheds_with_doors_agree() {
@@ -90,7 +90,7 @@ impl Sheds {
 
     fn compare(&mut self, register: &[u8], buffer_len: usize) -> Option<Refused> {
         let refused = self.comparison.compare(register, buffer_len);
-        let cards = register.get(HEADER_LEN..).unwrap_or_default().chunks_exact(CARD_LEN).enumerate();
+        let cards = cards_of(register).iter().map(|card| card.as_slice()).enumerate();
         let sheds: Vec<(usize, &[u8])> = cards.filter(|(_, card)| card[0] == 1 && card[3] == SHED_WITH_DOORS).collect();
         if !sheds.is_empty() {
             self.registers += 1;

@@ -2,13 +2,18 @@
 
 #[cfg(feature = "proved")]
 use rings_second::proved;
-use rings_second::reference::{self, Accepted, ExactRate, Likely, Refused, ANSWER_LEN, CARD_LEN, HEADER_LEN};
+use rings_second::reference::{self, Accepted, ExactRate, Likely, Refused, ANSWER_LEN, CARD_LEN};
+use rings_second::samples::cards_of;
+use rings_second::samples::edits::Edit;
 
 /// Bytes before, at and behind a place in a lent buffer differ, so that a byte that moves is seen.
 const PATTERN: [u8; 7] = [0xa5, 0x5a, 0xff, 0x00, 0x2c, 0x30, 0x0a];
 
 /// A card's exact rate, or its refusal.
 type Exact = fn(&[u8; CARD_LEN]) -> Result<ExactRate, Refused>;
+
+/// An edit that hands a card in, and gives the register's new length or a refusal.
+type EditByCard = fn(&mut [u8], &[u8; CARD_LEN]) -> Result<usize, Refused>;
 
 pub struct Implementation {
     pub name: &'static str,
@@ -18,6 +23,9 @@ pub struct Implementation {
     write_lines: fn(&[u8], &mut [u8]) -> Result<usize, Refused>,
     likely: fn(&[u8; CARD_LEN], u64, u32) -> Result<Likely, Refused>,
     exact_rate: Option<Exact>,
+    add: EditByCard,
+    replace: EditByCard,
+    withdraw: fn(&mut [u8], u32) -> Result<usize, Refused>,
 }
 
 pub static IMPLEMENTATIONS: &[Implementation] = &[
@@ -29,6 +37,9 @@ pub static IMPLEMENTATIONS: &[Implementation] = &[
         write_lines: reference::write_lines,
         likely: reference::likely,
         exact_rate: Some(reference::exact_rate),
+        add: reference::add,
+        replace: reference::replace,
+        withdraw: reference::withdraw,
     },
     #[cfg(feature = "proved")]
     Implementation {
@@ -39,13 +50,16 @@ pub static IMPLEMENTATIONS: &[Implementation] = &[
         write_lines: proved::write_lines,
         likely: proved::likely,
         exact_rate: None,
+        add: proved::add,
+        replace: proved::replace,
+        withdraw: proved::withdraw,
     },
 ];
 
 impl Implementation {
     /// The answers of a register and its farthest cards, in a buffer of a length.
     pub fn answers(&self, register: &[u8], room: usize) -> Result<(Vec<u8>, Accepted), Refused> {
-        let needed = register.len().saturating_sub(HEADER_LEN) / CARD_LEN * ANSWER_LEN;
+        let needed = cards_of(register).len() * ANSWER_LEN;
         let mut accepted = Accepted::default();
         let bytes = written(room, |lent| {
             accepted = (self.answer)(register, lent)?;
@@ -67,6 +81,15 @@ impl Implementation {
     /// The exact rate of a card, where an implementation tells it and not only the reported one.
     pub fn exact_rate(&self, card: &[u8; CARD_LEN]) -> Option<Result<ExactRate, Refused>> {
         self.exact_rate.map(|exact_rate| exact_rate(card))
+    }
+
+    /// The edit of the register that a lent buffer starts with; its new length.
+    pub fn edit(&self, buffer: &mut [u8], edit: &Edit) -> Result<usize, Refused> {
+        match edit {
+            Edit::Add(card) => (self.add)(buffer, card),
+            Edit::Replace(card) => (self.replace)(buffer, card),
+            Edit::Withdraw(number) => (self.withdraw)(buffer, *number),
+        }
     }
 
     /// The register that a text is read into, in a buffer of a length.

@@ -1,9 +1,9 @@
 //! The leaders of `tests/prefixes.txt`; the README beside it tells its form.
 
-use crate::forms::{card, hex_bytes, number, refusal, worded};
+use crate::forms::{card, cases_of, distances, hex_bytes, number, refusal, register};
 use crate::implementations::IMPLEMENTATIONS;
 use rings_second::reference::{Accepted, Farthest, Refused};
-use rings_second::samples::{register, Card};
+use rings_second::samples::Card;
 
 const CASES: &str = include_str!("../../../tests/prefixes.txt");
 
@@ -12,7 +12,7 @@ fn both_lead_as_stored() {
     let cases = Case::all();
     for case in &cases {
         assert!(!case.expected.is_empty(), "{}: nothing is asked", case.label);
-        let register = case.raw.clone().unwrap_or_else(|| register(&case.cards));
+        let register = case.raw.clone().unwrap_or_else(|| register(&case.cards, case.stored));
         for (cards, expected) in &case.expected {
             for implementation in IMPLEMENTATIONS {
                 let met = leaders(implementation.leaders_after(&register, *cards));
@@ -32,27 +32,26 @@ struct Case {
     /// The register's cards, unless its bytes are given.
     cards: Vec<Card>,
     raw: Option<Vec<u8>>,
+    /// The distances that it stores, in version 2.
+    stored: Option<[u16; 2]>,
     /// How many cards, and the leaders after them.
     expected: Vec<(usize, &'static str)>,
 }
 
 impl Case {
     fn all() -> Vec<Case> {
-        let mut cases: Vec<Case> = Vec::new();
-        for (word, rest) in worded(CASES) {
-            match (word, cases.last_mut()) {
-                ("case", _) => cases.push(Case { label: rest, cards: Vec::new(), raw: None, expected: Vec::new() }),
-                (_, Some(case)) => case.add(word, rest),
-                _ => panic!("before the first case: {word} {rest}"),
-            }
-        }
-        cases
+        cases_of(CASES, Case::new, Case::add)
+    }
+
+    fn new(label: &'static str) -> Self {
+        Case { label, cards: Vec::new(), raw: None, stored: None, expected: Vec::new() }
     }
 
     fn add(&mut self, word: &str, rest: &'static str) {
         match word {
             "card" => self.cards.push(card(rest)),
             "hex" => self.raw = Some(hex_bytes(rest)),
+            "stored" => self.stored = Some(distances(rest)),
             "after" => {
                 let (cards, leaders) = rest.split_once(": ").expect("how many cards, and the leaders");
                 self.expected.push((number(cards), leaders));

@@ -1,9 +1,11 @@
 //! Every line of `tests/vectors`, whose README tells the form of the files.
 
+use crate::edits;
 use crate::forms::name_of;
 use crate::implementations::{Implementation, IMPLEMENTATIONS};
 use crate::rates;
 use rings_second::reference::{Accepted, Farthest, Likely, Refused};
+use rings_second::samples::edits::Edit;
 use std::fs;
 use std::path::Path;
 
@@ -18,10 +20,13 @@ enum Columns {
     Result(Answer),
     /// A card, its exact rate, and the slack of the bound on the reported one.
     Rate,
+    /// A lent buffer, edits of the register in it, their results, and the buffer after all of them.
+    Edits,
 }
 
 /// The files, and how an implementation is held to their lines.
-const FILES: [(&str, Columns); 6] = [
+const FILES: [(&str, Columns); 7] = [
+    ("edits.tsv", Columns::Edits),
     ("likely.tsv", Columns::Result(likely)),
     ("prefix.tsv", Columns::Result(|by, register, cards| led(by.leaders_after(register, only(cards))))),
     ("rate.tsv", Columns::Rate),
@@ -73,6 +78,10 @@ impl Columns {
                 assert_eq!(answer(by, &bytes(input), &beside), *expected, "{place}");
             }
             (Columns::Rate, [card, exact, slack]) => rates::hold(by, &bytes(card), exact, slack, place),
+            (Columns::Edits, [buffer, list, results, after]) => {
+                let (results_met, after_met) = edited(by, bytes(buffer), list, place);
+                assert_eq!((results_met.as_str(), hex(&after_met).as_str()), (*results, *after), "{place}");
+            }
             _ => panic!("{place}: columns that are not of this file"),
         }
     }
@@ -96,6 +105,27 @@ fn likely(by: &Implementation, card: &[u8], query: &[u64]) -> String {
             format!("ok {table} {} {:016x}", name_of(found), hundredths.to_bits())
         }
         Err(refused) => refusal(refused),
+    }
+}
+
+/// The results of edits of the register in a lent buffer, and the buffer after all of them.
+fn edited(by: &Implementation, mut buffer: Vec<u8>, list: &str, place: &str) -> (String, Vec<u8>) {
+    let result = |edit| match edits::checked(by, &mut buffer, &edit_of(edit), place) {
+        Ok(_) => "ok".to_string(),
+        Err(refused) => refusal(refused),
+    };
+    let results: Vec<String> = list.split(';').map(result).collect();
+    (results.join(";"), buffer)
+}
+
+fn edit_of(text: &str) -> Edit {
+    let (word, what) = text.split_once(' ').expect("what is done, and with which card");
+    let card = || bytes(what).try_into().expect("24 bytes");
+    match word {
+        "add" => Edit::Add(card()),
+        "replace" => Edit::Replace(card()),
+        "withdraw" => Edit::Withdraw(what.parse().expect("a card number")),
+        _ => panic!("no edit: {text}"),
     }
 }
 

@@ -1,6 +1,5 @@
 use Rattle.strict_lines.proofs.Turns.{put_start, line_fits, put_turn}
 use Rattle.std.proofs.Common.{rules}
-use Rattle.buffer.proofs.Laws.{lent}
 use Rattle.strict_lines.proofs.put_lines.Goals as goal
 
 pub loop-card-init : goal.loop-card-init
@@ -16,5 +15,5 @@ loop-card-preserved c =
       search rules,
       search rules,
       search rules,
-      put_turn c.args.cards.now (search rules) c.loop-card.card-index (search rules) _ _ _ line.wrote line.upper_bound (search rules) _ _ _ c.loop-card.invariant.4 _ _ c.put_text.ensures.wrote,
+      put_turn c.args.cards.now c.loop-card.card-index (search rules) _ _ _ line.wrote line.upper_bound (search rules) _ _ _ c.loop-card.invariant.4 _ _ c.put_text.ensures.wrote,
     )

@@ -4,9 +4,8 @@
 use Prim.Native.Nat.{◌≤◌, ◌*◌}
 use mathlib.Core.Path.{◌≡◌}
 use lib.ListN.{length}
-use Rattle.std.specs.List.{concat}
-use Rattle.strict_lines.specs.Walk.{lines_to}
+use Rattle.strict_lines.proofs.Turns.{lines_to}
 use Rattle.strict_lines.proofs.text_size.Given as goal
 
 abbrev pub invariant-loop-card : goal.invariant-loop-card
-invariant-loop-card l = (l.size ≤ 256 * l.card-index) × (length l.line ≡ length l.initial.line) × (l.size ≡ length (lines_to l.card-index (concat l.cards)))
+invariant-loop-card l = (l.size ≤ 256 * l.card-index) × (length l.line ≡ length l.initial.line) × (l.size ≡ length (lines_to l.card-index l.cards))

@@ -2,7 +2,7 @@
 
 use super::{read_lines, write_lines, MAX_LINE, MAX_STRICT_LINE};
 use crate::reference::{answer, Refused, ANSWER_LEN, CARD_LEN, HEADER_LEN, MAX_CARDS, MAX_LEN};
-use crate::samples::{accepted_cards, register, Card, Rng};
+use crate::samples::{accepted_cards, as_version_2, cards_of, register, stored_register, Card, Rng};
 
 /// Document 01's three cards in strict form.
 const EXAMPLE: &str = "1,2,2,0,7782-50-5,2500,0,0,0,11,\n\
@@ -373,10 +373,23 @@ fn only_an_accepted_register_is_written() {
     // Its own refusal comes before 13, and 4 not at all.
     assert_eq!(write_into(&high_wall, 0), refused(14, 1));
     assert_eq!(write_into(&[0, 0, 0, 8, 1, 0, 0], 0), refused(1, 0));
-    assert_eq!(write_into(&[0, 0, 0, 7, 2, 0, 0], 0), refused(2, 0));
+    assert_eq!(write_into(&[0, 0, 0, 7, 9, 0, 0], 0), refused(2, 0));
     assert_eq!(write_into(&[0, 0, 0, 7, 1, 0, 1], 0), refused(3, 0));
     assert_eq!(answer(&register(&example()), &mut []), Err(Refused { number: 4, place: 0 }));
     assert_eq!(write_into(&register(&example()), 0), refused(13, 0));
+}
+
+#[test]
+fn version_2_is_not_written() {
+    let stored = as_version_2(&register(&example()));
+    assert!(answer(&stored, &mut [0; 3 * ANSWER_LEN]).is_ok());
+    assert_eq!(write(&stored), refused(2, 0));
+    // Right after 1, so whatever its count, its cards and its distances are.
+    let high_wall = register(&[Card { wall: 10_001, ..bromine() }]);
+    assert_eq!(write(&stored_register(cards_of(&high_wall), [0, 0])), refused(2, 0));
+    assert_eq!(write(&stored_register(cards_of(&stored), [1, 2])), refused(2, 0));
+    assert_eq!(write(&[0, 0, 0, 7, 2, 0xff, 0xff]), refused(2, 0));
+    assert_eq!(write(&[0, 0, 0, 8, 2, 0, 0]), refused(1, 0));
 }
 
 #[test]
