@@ -126,7 +126,7 @@ fn edit(
     ensures buffer_after { buffer.new ≡ left_by (register_by number wanted brought.now buffer.old) buffer.old }
 {
     let count = header::header_of(edits::held(buffer), header::ENOUGH)?;
-    if count <= 40 {
+    if count <= 41 {
         return edit_by::<1_024>(buffer, number, wanted, brought);
     }
     edit_by::<48_035>(buffer, number, wanted, brought)

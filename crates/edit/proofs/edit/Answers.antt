@@ -17,7 +17,7 @@ returns-in_err-count-clause-buffer_after c =
 pub edit_by-requires : goal.edit_by-requires
 edit_by-requires c =
     let q = c.in_ok-count.was {u = tt} in
-    let z = ready c.args.buffer.now c.held.result.now c.held.ensures c.header_of.result c.header_of.ensures.value _ q 1_024 (omega (arith, c.if-count-le40.true)) in search (z, rules)
+    let z = ready c.args.buffer.now c.held.result.now c.held.ensures c.header_of.result c.header_of.ensures.value _ q 1_024 (omega arith) in search (z, rules)
 
 pub edit_by-requires-2 : goal.edit_by-requires-2
 edit_by-requires-2 c =
