@@ -1,3 +1,4 @@
 pub mod Rising
 pub mod Cut
 mod Ends
+pub mod Brought
