@@ -1,4 +1,5 @@
 pub mod Rising
 pub mod Cut
+pub mod Lists
 mod Ends
 pub mod Brought

@@ -12,15 +12,15 @@ use Rattle.std.proofs.Math.Bool.{true, false}
 use Rattle.std.proofs.lemmas.Bool.Decides.{nat_tests}
 use Rattle.refusals.specs.declared.Refusal.{Refusal}
 use Rattle.refusals.specs.declared.Refusal.TheVariants as refusal
-use Rattle.header.specs.Header.{enough}
+use Rattle.header.specs.Header.{version_of, enough, layout_of, unknown, bad_length, bad_version}
 use Rattle.cards.specs.Register.{outcome_of}
 use Rattle.fields.specs.declared.Fields.{Fields}
 use Rattle.comma.specs.Line.{line_of}
 use Rattle.comma.specs.Text.{Cards, cards, bad, then, cards_from, cards_in, lines_of, bad_room, size_of, read_as, reading_of}
-use Rattle.write_lines.specs.Writing.{strict_text, answer_as, writing_of}
-use Rattle.conditions.specs.Conditions.{Condition, condition, only, conditions_at}
+use Rattle.write_lines.specs.Writing.{strict_text, other_version, refused_if, writable, answer_as, writing_of}
+use Rattle.conditions.specs.Conditions.{Condition, condition, only, of_register, conditions_at}
 use Rattle.conditions.specs.First.{passed, first_of, after_passed, first_append}
-use Rattle.line_conditions.specs.Lines.{malformed, bad_line, all_formed, no_room_to_read, no_room_to_write, room_at, lines_at, writing_at}
+use Rattle.line_conditions.specs.Lines.{malformed, bad_line, all_formed, no_room_to_read, no_room_to_write, room_at, lines_at, of_writer, taken_at, writing_at}
 use Rattle.conditions.specs.Claim.{ExactlyBy}
 use Rattle.conditions.proofs.Tables.{Passes, Refuses, exactly_by}
 use Rattle.line_conditions.specs.LinesClaim.{ReadExactly, WrittenExactly}
@@ -140,18 +140,43 @@ read_exactly text room = told_exactly (lines_at text room) (reading_of text room
 -- ---- the writer
 
 module _ (register : List ℕ) (room : ℕ) where
-  -- the register's own conditions
-  abbrev own : ℕ → List Condition
-  own = conditions_at register enough
+  -- what the writer makes of the register, in terms of its table
+  abbrev Taken : Result Leaders (SentBack ℕ) → Type 0
+  Taken (Ok l) = Passes (taken_at register)
+  Taken (Err sent) = Refuses (taken_at register) sent.refusal sent.place
 
-  writing_told : (o : Result Leaders (SentBack ℕ)) → RegisterTold register enough o → Told (further own (no_room_to_write o (strict_text register) room)) (answer_as o (strict_text register) room)
+  -- version 1 is given
+  known : other_version register ≡ false → bad_version register ≡ false
+  unfolding other_version bad_version layout_of
+  known e = let one : version_of register ≡ 1 = grind (arith, nat_tests, e) in ap (λ v. unknown (layout_of v)) one
+
+  -- so where the writer gives no 2, its table comes to the register's
+  as_register : other_version register ≡ false → (place : ℕ) → first_of (taken_at register place) ≡ first_of (conditions_at register enough place)
+  unfolding taken_at of_writer conditions_at only of_register first_of
+  as_register e place = simp (e, known e)
+
+  passed_on : other_version register ≡ false → (o : Result Leaders (SentBack ℕ)) → RegisterTold register enough o → Taken o
+  passed_on e (Ok l) t = λ p. as_register e p ∙ t p
+  passed_on e (Err sent) t = (as_register e sent.place ∙ t.0, λ p h. as_register e p ∙ t.1 p h)
+
+  -- by the writer's own two checks
+  taken_told : Taken (writable register)
+  unfolding writable taken_at of_writer only first_of
+  taken_told = go (bad_length register) (other_version register) refl refl
+    where
+      go : (a b : Bool) → bad_length register ≡ a → other_version register ≡ b → Taken (refused_if a refusal.Length (refused_if b refusal.Version (outcome_of register enough)))
+      go true b p q = (simp p, λ k h. absurd (omega (arith, h)))
+      go false true p q = (simp (p, q), λ k h. absurd (omega (arith, h)))
+      go false false p q = passed_on q (outcome_of register enough) (register_told register enough)
+
+  writing_told : (o : Result Leaders (SentBack ℕ)) → Taken o → Told (further (taken_at register) (no_room_to_write o (strict_text register) room)) (answer_as o (strict_text register) room)
   unfolding no_room_to_write
-  writing_told (Ok l) t = found_last own (ltb room (length (strict_text register))) (length (strict_text register)) t
-  writing_told (Err sent) t = still_refuses own sent.refusal sent.place t
+  writing_told (Ok l) t = found_last (taken_at register) (ltb room (length (strict_text register))) (length (strict_text register)) t
+  writing_told (Err sent) t = still_refuses (taken_at register) sent.refusal sent.place t
 
   written_told : Told (writing_at register room) (writing_of register room)
   unfolding writing_at writing_of
-  written_told = writing_told (outcome_of register enough) (register_told register enough)
+  written_told = writing_told (writable register) taken_told
 
 pub written_exactly : WrittenExactly
 written_exactly register room = told_exactly (writing_at register room) (writing_of register room) (written_told register room)

@@ -1,10 +1,10 @@
--- What the tables of comma lines say in plain words: of the reader's 12 and 13, and of the writer's 4.
+-- What the tables of comma lines say in plain words: of the reader's 12 and 13, and of the writer's 2 and 4.
 -- Assumes nothing.
 use Rattle.std.specs.Prelude.{Ok, Err}
 use Rattle.refusals.specs.Numbers.{refused_at}
 use Prim.Native.Nat.{ℕ, zero, suc, ◌+◌, ◌*◌, ◌<◌}
 use Rattle.std.proofs.Common.{arith, ◌∙◌, sym, eqb-true}
-use Rattle.std.specs.Prelude.{◌≡◌, refl, true, not, List, [], ◌∷◌, map, ◌⊎◌, eqb, length, get_or, drop}
+use Rattle.std.specs.Prelude.{◌≡◌, refl, true, false, not, List, [], ◌∷◌, map, ◌⊎◌, eqb, length, get_or, drop}
 use Rattle.std.proofs.lemmas.Bool.Decides.{nat_tests}
 use Rattle.std.proofs.Math.Path.{ap, ap₂}
 use Rattle.std.proofs.Math.Logic.{inl, inr, ⊎_elim}
@@ -15,13 +15,14 @@ use Rattle.search.specs.PlaceLaws.{every_at}
 use Rattle.refusals.specs.declared.Refusal.{Refusal}
 use Rattle.refusals.specs.declared.Refusal.TheVariants as refusal
 use Rattle.refusals.specs.Numbers.{number_of}
-use Rattle.header.specs.Header.{enough, bad_count, bad_buffer}
+use Rattle.header.specs.Header.{version_of, enough, bad_length, bad_count, bad_buffer}
 use Rattle.comma.specs.Text.{lines_of, bad_room, reading_of}
-use Rattle.conditions.specs.Conditions.{Condition, condition, only, of_register, of_card, conditions_at}
+use Rattle.write_lines.specs.Writing.{other_version, writable, writing_of}
+use Rattle.conditions.specs.Conditions.{Condition, condition, only, of_register, of_card, at_last, conditions_at}
 use Rattle.conditions.specs.First.{Names}
-use Rattle.line_conditions.specs.Lines.{bad_line, all_formed, no_room_to_read, room_at, lines_at, writing_at}
+use Rattle.line_conditions.specs.Lines.{bad_line, all_formed, no_room_to_read, room_at, lines_at, of_writer, taken_at, writing_at}
 use Rattle.conditions.specs.Claim.{Holds, First, number_in}
-use Rattle.line_conditions.specs.LinesClaim.{BadLine, NamesFirst, ComesWhenBad, FoundLast, NeverFour}
+use Rattle.line_conditions.specs.LinesClaim.{BadLine, NamesFirst, ComesWhenBad, FoundLast, OtherVersions, NeverFour}
 use Rattle.line_conditions.proofs.LinesExactly.{ends, bad_here, bad_behind, none_bad, not_formed, read_exactly, written_exactly}
 
 -- ---- the tests, and what they say
@@ -152,7 +153,7 @@ found_last text room place = (
       ∙ ap (λ p. Err (refused_at refusal.Room p)) (sym t.0),
 )
 
--- ---- the writer's 4
+-- ---- the writer's 2 and its 4
 
 -- a line that names a refusal has its number
 number_at : (cs : List Condition) (l : ℕ) (r : Refusal) → Names cs l r → get_or (map number_in cs) l 0 ≡ number_of r
@@ -165,12 +166,38 @@ three_too : (register : List ℕ) → bad_buffer register enough ≡ true → ba
 unfolding bad_buffer bad_count
 three_too register e = grind (arith, nat_tests)
 
--- none of some numbers is 4
-none_four : (numbers : List ℕ) → every (λ k. not (eqb k 4)) numbers ≡ true → (l : ℕ) → get_or numbers l 0 ≡ 4 → ⊥
-none_four numbers e l n = grind (arith, nat_tests, every_at (λ k. not (eqb k 4)) numbers 0 e refl l)
+-- none of some numbers is this one
+none_is : (m : ℕ) (numbers : List ℕ) → every (λ k. not (eqb k m)) numbers ≡ true → not (eqb 0 m) ≡ true → (l : ℕ) → get_or numbers l 0 ≡ m → ⊥
+none_is m numbers e z l n = grind (arith, nat_tests, every_at (λ k. not (eqb k m)) numbers 0 e z l)
+
+module _ (register : List ℕ) (room place : ℕ) where
+  two_first : writing_of register room ≡ Err (refused_at refusal.Version place) → (place ≡ 0) × (bad_length register ≡ false) × (version_of register ≡ 1 → ⊥)
+  unfolding writing_at taken_at of_writer conditions_at only of_register of_card at_last room_at other_version
+  two_first e = go x.line (number_at (writing_at register room place) x.line refusal.Version x.names) x.holds x.above
+    where
+      x : First (writing_at register room) refusal.Version place
+      x = ((written_exactly register room).0 refusal.Version place).0 e
+
+      go : (l : ℕ) → get_or (map number_in (writing_at register room place)) l 0 ≡ 2 → Holds (writing_at register room) l place → ((i : ℕ) → i < l → Holds (writing_at register room) i place → ⊥)
+          → (place ≡ 0) × (bad_length register ≡ false) × (version_of register ≡ 1 → ⊥)
+      go zero n h a = absurd (omega (arith, n))
+      go (suc zero) n h a =
+          let p = both_true (eqb place 0) (other_version register) h in
+          -- 1 does not hold above it
+          let above : bad_length register ≡ true → ⊥ = λ q. a 0 (omega arith) (ap₂ both p.0 q) in
+          (eqb-true place 0 p.0, grind (arith, above), grind (arith, nat_tests, p.1))
+      -- the lines below 2's have other numbers
+      go (suc (suc l)) n h a = absurd (none_is 2 (drop 2 (map number_in (writing_at register room place))) refl refl l n)
+
+pub other_versions : OtherVersions
+unfolding writing_of writable other_version
+other_versions register room place = (
+  two_first register room place,
+  λ t. grind (arith, nat_tests, t.0, t.1, t.2),
+)
 
 pub never_four : NeverFour
-unfolding writing_at conditions_at only of_register of_card room_at
+unfolding writing_at taken_at of_writer conditions_at only of_register of_card at_last room_at
 never_four register room place e = go x.line (number_at (writing_at register room place) x.line refusal.Buffer x.names) x.holds x.above
   where
     x : First (writing_at register room) refusal.Buffer place
@@ -184,4 +211,4 @@ never_four register room place e = go x.line (number_at (writing_at register roo
         let p = both_true (eqb place 0) (bad_buffer register enough) h in
         a 2 (omega arith) (ap₂ both p.0 (three_too register p.1))
     -- the lines below 4's have other numbers
-    go (suc (suc (suc (suc l)))) n h a = none_four (drop 4 (map number_in (writing_at register room place))) refl l n
+    go (suc (suc (suc (suc l)))) n h a = none_is 4 (drop 4 (map number_in (writing_at register room place))) refl refl l n

@@ -78,6 +78,10 @@ found bytes room {l} e = header_found (header_of bytes room) e
     header_found (Ok n) q = cards_found (cards_of bytes) refl q
     header_found (Err r) q = clash (cc)
 
+pub found_cards : (bytes : List ℕ) {l : Leaders} (f : Found bytes l) → cards_of bytes ≡ answers f.list
+unfolding cards_of
+found_cards bytes f = grind (arith, f.cards, f.leads, f.stored)
+
 -- cards of a register that are all answered: every answer is that of a card, and every card has its answer
 module _ (bytes : List ℕ) {xs : List Answer} (e : cards_from 0 0 (cards_in bytes) ≡ answers xs) where
   pub answer_is_cards : (i : ℕ) (a : Answer) → At xs i a → (i < count_of bytes) × (last : ℕ) × (answer_of (card_at bytes i) last ≡ Ok a)

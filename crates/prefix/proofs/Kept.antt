@@ -25,8 +25,7 @@ use Rattle.cards.specs.Register.{Cards, answers, sent_back, cards_from, settled,
 use Rattle.cards.proofs.Laws.{cards_count, settled_is}
 use Rattle.ordering.specs.Claim.{card_at}
 use Rattle.ordering.proofs.Ordering.{in_result}
-use Rattle.ordering.specs.Found.{Found}
-use Rattle.ordering.proofs.Found.{found, from_card, to_card}
+use Rattle.ordering.proofs.Found.{found, found_cards, from_card, to_card}
 use Rattle.prefix.specs.Prefix.{result_after, result_behind, prefix_of}
 use Rattle.prefix.specs.Claim.{distance_in, distance_of, Among, LeaderOfFirst, FarthestOfFirst, Keeps}
 
@@ -125,10 +124,8 @@ module _ (c : Class) (bytes : List ℕ) (k : ℕ) {l : Leaders} (e : outcome_of 
 
 -- of an accepted register the definition takes the leaders of the first k answers
 pub accepted_first : (bytes : List ℕ) (k : ℕ) {l : Leaders} (e : outcome_of bytes enough ≡ Ok l) → prefix_of bytes k ≡ Ok (leaders_of (take k (found bytes enough e).list))
-unfolding prefix_of outcome_of cards_of
-accepted_first bytes k {l} e =
-    let f : Found bytes l = found bytes enough e in
-    grind (arith, f.cards, f.leads, f.stored, e)
+unfolding prefix_of outcome_of
+accepted_first bytes k e = grind (arith, found_cards bytes (found bytes enough e), e)
 
 -- one that is sent back gives its refusal
 pub refused_first : (bytes : List ℕ) (k : ℕ) (r : Refusal) (place : ℕ) → outcome_of bytes enough ≡ Err (refused_at r place) → prefix_of bytes k ≡ Err (refused_at r place)

@@ -12,24 +12,22 @@ use Rattle.farthest.specs.declared.Leaders.{Leaders}
 use Rattle.farthest.specs.Farthest.{At}
 use Rattle.encode.specs.Bytes.{answer_bytes}
 use Rattle.encode.specs.Laws.{length_answer}
-use Rattle.header.specs.Header.{header_of, count_of}
-use Rattle.cards.specs.Register.{Cards, answers, sent_back, cards_from, cards_of, result_of, after_header, outcome_of, bytes_of, filled_with, filled_after, buffer_of}
+use Rattle.header.specs.Header.{header_of, count_of, cards_in}
+use Rattle.header.proofs.Cards.{cards_counted}
+use Rattle.cards.specs.Register.{Cards, answers, sent_back, cards_of, result_of, after_header, outcome_of, bytes_of, filled_with, filled_after, buffer_of}
 use Rattle.cards.proofs.Laws.{cards_count, bytes_length}
 use Rattle.ordering.specs.Claim.{card_at, Accepts}
 use Rattle.ordering.specs.Found.{Found}
-use Rattle.ordering.proofs.Found.{found, header_count, any_room, to_card}
+use Rattle.ordering.proofs.Found.{found, found_cards, any_room, to_card}
 
-good_filled : (bytes out : List ℕ) (h : Result ℕ Refusal) {l : Leaders} (f : Found bytes l) → header_of bytes (length out) ≡ h → after_header h bytes ≡ Ok l → filled_after h bytes out ≡ bytes_of f.list ++ drop (length (bytes_of f.list)) out
-unfolding cards_of
-good_filled bytes out (Ok n) f p e =
-    ap (λ y. filled_with (cards_from y 0 0 (drop 7 bytes)) out) (sym (header_count bytes (length out) n p))
-    ∙ ap (λ y. filled_with y out) f.cards
-good_filled bytes out (Err r) f p e = clash (cc)
+good_filled : (bytes out : List ℕ) (h : Result ℕ Refusal) {l : Leaders} (f : Found bytes l) → after_header h bytes ≡ Ok l → filled_after h bytes out ≡ bytes_of f.list ++ drop (length (bytes_of f.list)) out
+good_filled bytes out (Ok n) f e = ap (λ c. filled_with c out) (found_cards bytes f)
+good_filled bytes out (Err r) f e = clash (cc)
 
 buffer_is : (bytes out : List ℕ) {l : Leaders} (e : Accepts bytes out l) → buffer_of bytes out ≡ bytes_of (found bytes (length out) e).list ++ drop (length (bytes_of (found bytes (length out) e).list)) out
 unfolding buffer_of outcome_of
 buffer_is bytes out e =
-    good_filled bytes out (header_of bytes (length out)) (found bytes (length out) e) refl e
+    good_filled bytes out (header_of bytes (length out)) (found bytes (length out) e) e
 
 -- the bytes of the answer at a place
 bytes_at : (xs : List Answer) (rest : List ℕ) (i j : ℕ) (a : Answer) → At xs i a → j < 16 → get_or (bytes_of xs ++ rest) (16 * i + j) 0 ≡ get_or (answer_bytes a) j 0
@@ -65,7 +63,7 @@ buffer_at bytes out l e i j h k =
 pub buffer_beyond : (bytes out : List ℕ) (l : Leaders) → Accepts bytes out l → (k : ℕ) → 16 * count_of bytes ≤ k → get_or (buffer_of bytes out) k 0 ≡ get_or out k 0
 buffer_beyond bytes out l e k h =
     let f = found bytes (length out) e in
-    let n : length (bytes_of f.list) ≤ k = omega (arith, bytes_length f.list, cards_count (count_of bytes) 0 0 (drop 7 bytes) f.list f.cards) in
+    let n : length (bytes_of f.list) ≤ k = omega (arith, bytes_length f.list, cards_count 0 0 (cards_in bytes) f.list f.cards, cards_counted bytes) in
     let z : k ≡ length (bytes_of f.list) + (k - length (bytes_of f.list)) = omega arith in
     ap (λ (b : List ℕ). get_or b k 0) (buffer_is bytes out e)
     ∙ (ap (λ m. get_or (bytes_of f.list ++ drop (length (bytes_of f.list)) out) m 0) z
@@ -78,7 +76,7 @@ kept_cards (answers xs) out e = clash (cc)
 kept_cards (sent_back r place) out e = refl
 
 kept_header : (h : Result ℕ Refusal) (bytes out : List ℕ) {r : Refusal} {place : ℕ} → after_header h bytes ≡ Err (refused_at r place) → filled_after h bytes out ≡ out
-kept_header (Ok n) bytes out e = kept_cards (cards_of n bytes) out e
+kept_header (Ok n) bytes out e = kept_cards (cards_of bytes) out e
 kept_header (Err r) bytes out e = refl
 
 pub buffer_kept : (bytes out : List ℕ) (r : Refusal) (place : ℕ) → outcome_of bytes (length out) ≡ Err (refused_at r place) → buffer_of bytes out ≡ out

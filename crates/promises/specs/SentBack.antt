@@ -7,8 +7,9 @@ use Rattle.farthest.specs.declared.Leaders.{Leaders}
 use Rattle.refusals.specs.declared.SentBack.{SentBack}
 use Rattle.refusals.specs.Numbers.{number_of}
 use Rattle.cards.specs.Register.{outcome_of}
-use Rattle.conditions.specs.Conditions.{Condition, condition, unlisted, filled, bad_toxic, bad_flammable, bad_form, of_gas, of_liquid, of_flammable, of_solution, bad_cas, mismatched, above_last, last_in_use, beyond_table, state_in, ground_in, held_in, beyond, of_register, of_card, only, conditions_at}
-use Rattle.promises.specs.Starred.{card_of, register_of, chlorine, ammonia, bromine, propane, rural, urban, in_open, in_dike, computed}
+use Rattle.prefix.specs.Claim.{distance_of}
+use Rattle.conditions.specs.Conditions.{Condition, condition, unlisted, filled, bad_toxic, bad_flammable, bad_form, of_gas, of_liquid, of_flammable, of_solution, bad_cas, mismatched, above_last, last_in_use, beyond_table, state_in, ground_in, held_in, beyond, of_register, of_card, have_passed, farthest_among, wrong_distance, at_last, only, conditions_at}
+use Rattle.promises.specs.Starred.{card_of, register_of, storing_register, chlorine, ammonia, bromine, propane, rural, urban, in_open, in_dike, computed}
 use Rattle.promises.specs.Solutions.{hydrochloric}
 use Rattle.promises.specs.Sheds.{with_doors}
 
@@ -34,8 +35,9 @@ unfoldable pub examples : List Example
 examples =
     -- 1: "hex 00000008 01 0000"
     example 1 0 0 (0 ∷ 0 ∷ 0 ∷ 8 ∷ 1 ∷ 0 ∷ 0 ∷ [])
-    -- 2: "hex 00000007 02 0000"
-    ∷ example 2 0 0 (0 ∷ 0 ∷ 0 ∷ 7 ∷ 2 ∷ 0 ∷ 0 ∷ [])
+    -- 2: "its example now has 09" (document 02, A9); and no request gives 3 yet
+    ∷ example 2 0 0 (0 ∷ 0 ∷ 0 ∷ 7 ∷ 9 ∷ 0 ∷ 0 ∷ [])
+    ∷ example 2 0 0 (0 ∷ 0 ∷ 0 ∷ 7 ∷ 3 ∷ 0 ∷ 0 ∷ [])
     -- 3: "hex 00000007 01 0001"
     ∷ example 3 0 16 (0 ∷ 0 ∷ 0 ∷ 7 ∷ 1 ∷ 0 ∷ 1 ∷ [])
     -- 4: "one card, 15 bytes"
@@ -85,6 +87,20 @@ examples =
     ∷ card 9 (hydrochloric rural with_doors 10_000 1_000_001 0 370 1)
     ∷ card 6 (bromine with_doors 100 1 1)
     ∷ card 6 (bromine 4 100 0 1)
+    -- document 02, A9: "Version 2's length rule is 11 + 24 × count": document 01's example of 2, and a register that ends in its header
+    ∷ example 3 0 0 (0 ∷ 0 ∷ 0 ∷ 7 ∷ 2 ∷ 0 ∷ 0 ∷ [])
+    ∷ example 3 0 0 (0 ∷ 0 ∷ 0 ∷ 10 ∷ 2 ∷ 0 ∷ 0 ∷ 0 ∷ 0 ∷ 0 ∷ [])
+    -- "A wrong stored distance is number 3" (with the right ones a register is accepted: `starred_storing`): "zero for none"; 3.00 miles
+    -- and no flammable card, and the other way round
+    ∷ example 3 0 0 (storing_register 1 0 [])
+    ∷ example 3 0 16 (storing_register 299 0 (chlorine rural in_open 0 2_249 1 ∷ []))
+    ∷ example 3 0 16 (storing_register 300 1 (chlorine rural in_open 0 2_249 1 ∷ []))
+    ∷ example 3 0 16 (storing_register 0 300 (chlorine rural in_open 0 2_249 1 ∷ []))
+    -- the last card's, where an earlier one is farther
+    ∷ example 3 0 32 (storing_register 300 0 (chlorine rural in_open 0 2_250 1 ∷ chlorine rural in_open 0 2_249 2 ∷ []))
+    -- "once every card has passed": a refused card hides it, and so does 4
+    ∷ example 8 1 32 (storing_register 1 1 (chlorine rural in_open 0 2_249 1 ∷ chlorine rural in_open 0 0 2 ∷ []))
+    ∷ example 4 0 15 (storing_register 1 1 (propane 20_000 1 ∷ []))
     ∷ []
 
 -- the number and the place of a call that is sent back
@@ -119,5 +135,5 @@ stated e = e.number ∷ e.place ∷ e.number ∷ []
 
 -- Every example of the table.
 pub sent_back : map defined examples ≡ map stated examples
-unfolding examples computed holding conditions_at only of_register of_card bad_form bad_toxic bad_flammable unlisted filled bad_cas of_gas of_liquid of_flammable of_solution mismatched beyond state_in ground_in held_in beyond_table above_last last_in_use
+unfolding examples computed holding conditions_at only of_register at_last wrong_distance have_passed farthest_among distance_of of_card bad_form bad_toxic bad_flammable unlisted filled bad_cas of_gas of_liquid of_flammable of_solution mismatched beyond state_in ground_in held_in beyond_table above_last last_in_use
 sent_back = refl

@@ -1,4 +1,4 @@
--- Document 01's starred cases as one table of registers, and the one theorem that each comes out as its row states.
+-- Document 01's starred cases as one table of registers, and the theorem that each comes out as its row states, in either version.
 -- Assumes nothing.
 use Rattle.std.specs.Prelude.{ℕ, ◌+◌, ◌*◌, ◌≡◌, refl, List, [], ◌∷◌, ◌++◌, map, length, Option, Some, None, Result, Ok, Err}
 use Rattle.farthest.specs.declared.Leader.{Leader}
@@ -39,7 +39,8 @@ use Rattle.card.specs.declared.Answer.{Answer}
 use Rattle.card.specs.Answers.{answer_of}
 use Rattle.farthest.specs.Farthest.{leaders_after, leaders_from, leaders_of}
 use Rattle.buffer.specs.Numbers.{two_bytes, four_bytes}
-use Rattle.header.specs.Header.{answer_size, bad_buffer, bad_count, bad_length, bad_version, card_size, header_of, header_size}
+use Rattle.header.specs.Header.{answer_size, bad_buffer, bad_count, bad_length, bad_version, cards_in, header_of, layout_in, layout_of, stored_in}
+use Rattle.cards.specs.Distances.{distance_in, wrong_for}
 use Rattle.cards.specs.Register.{Cards, answers, cards_from, cards_of, outcome_of}
 
 -- a card's 24 bytes: kind, state, ground, containment, CAS number, pounds, area, wall, temperature, card number
@@ -57,7 +58,13 @@ strung (card ∷ rest) = card ++ strung rest
 -- a register: "Four bytes: length of the whole register. One byte: version, 1. Two bytes: card count", then the cards
 abbrev pub register_of : List (List ℕ) → List ℕ
 register_of cards =
-    four_bytes (header_size + card_size * length cards) ++ (1 ∷ (two_bytes (length cards) ++ strung cards))
+    four_bytes (7 + 24 * length cards) ++ (1 ∷ (two_bytes (length cards) ++ strung cards))
+
+-- document 02, A9: "Version 2 puts two 2-byte distances after the count, toxic then flammable", "11 + 24 × count"
+abbrev pub storing_register : ℕ → ℕ → List (List ℕ) → List ℕ
+storing_register toxic flammable cards =
+    four_bytes (11 + 24 * length cards)
+    ++ (2 ∷ (two_bytes (length cards) ++ (two_bytes toxic ++ (two_bytes flammable ++ strung cards))))
 
 -- the paper's pool area in hundredths of a square foot, or that it gives none
 pub data Area : Type 0 where
@@ -201,22 +208,37 @@ abbrev pub where_given : Area → Area → Area
 where_given (given n) found = found
 where_given not_given found = not_given
 
--- what the definitions say of a row's register, with the shortest answer buffer that number 4 lets pass
-abbrev pub defined : Row → Said
-defined r =
-    let cards : List (List ℕ) = map (λ l. l.card) r.lines in
+-- the cards of a row
+abbrev pub cards_of_row : Row → List (List ℕ)
+cards_of_row r = map (λ l. l.card) r.lines
+
+-- what the definitions say of a register of a row's cards, with the shortest answer buffer that number 4 lets pass
+abbrev pub defined_by : List ℕ → Row → Said
+defined_by register r =
     record {
-      outcome = outcome_of (register_of cards) (answer_size * length cards);
-      cards = cards_of (length cards) (register_of cards);
+      outcome = outcome_of register (answer_size * length (cards_of_row r));
+      cards = cards_of register;
       pools = map (λ l. where_given l.pool (area_of (meaning_of (fields_of l.card) 0))) r.lines;
     }
 
+abbrev pub defined : Row → Said
+defined r = defined_by (register_of (cards_of_row r)) r
+
+-- and of one that stores the distances of its farthest cards
+abbrev pub defined_storing : Row → Said
+defined_storing r = defined_by (storing_register (distance_in r.toxic) (distance_in r.flammable) (cards_of_row r)) r
+
 -- all that the rows compute with
 unfoldable pub computed : Unit {0}
-unfolding strung two_bytes four_bytes outcome_of cards_of cards_from header_of bad_length bad_version bad_count bad_buffer leaders_of leaders_from leaders_after answer_of fields_of bad_area bad_heat bad_number bad_pounds bad_wall blank bounds_of flammable_of ground_of held_of meaning_of open_of shape_of signed state_of substance_of tenths_of toxic_meaning factors_of toxic_of b1 b2 b3 b4 bad_percent highest lines_of lowest solution_of among look_up is_flammable heat_of first_from metres_of ring_of c1 table1 table2 table3 table4 endpoints5 endpoints6 endpoints7 endpoints8 rates5 rates6 rates7 rates8 table5 table6 table7 table8 table9 table10 table11 table12 answered apart by_range by_row closest closest_column closest_from closest_row distance from_column holding in_use larger largest last_of mark_of past ratio_below smaller thousandths read_in reading_of tables column_of plan_of pool_of table_of vapor_of at_most_ten_minutes diked_area pool_rate
+unfolding strung two_bytes four_bytes outcome_of cards_of cards_from wrong_for cards_in stored_in layout_in layout_of header_of bad_length bad_version bad_count bad_buffer leaders_of leaders_from leaders_after answer_of fields_of bad_area bad_heat bad_number bad_pounds bad_wall blank bounds_of flammable_of ground_of held_of meaning_of open_of shape_of signed state_of substance_of tenths_of toxic_meaning factors_of toxic_of b1 b2 b3 b4 bad_percent highest lines_of lowest solution_of among look_up is_flammable heat_of first_from metres_of ring_of c1 table1 table2 table3 table4 endpoints5 endpoints6 endpoints7 endpoints8 rates5 rates6 rates7 rates8 table5 table6 table7 table8 table9 table10 table11 table12 answered apart by_range by_row closest closest_column closest_from closest_row distance from_column holding in_use larger largest last_of mark_of past ratio_below smaller thousandths read_in reading_of tables column_of plan_of pool_of table_of vapor_of at_most_ten_minutes diked_area pool_rate
 computed = tt
 
 -- Every starred case of document 01.
 pub starred : map defined rows ≡ map stated rows
 unfolding rows computed
 starred = refl
+
+-- And in a register of version 2 with the right distances.
+pub starred_storing : map defined_storing rows ≡ map stated rows
+unfolding rows computed
+starred_storing = refl

@@ -1,12 +1,13 @@
 // The register behind a C interface: a call that answers it and one that tells the leaders after its first cards, whose result and
-// two farthest cards are words; two that read it from comma lines and write it as such, each with one word beside its result; one
-// that tells a card's likely scenario, by three words; and one that tells whether a stored answer is old.
+// two farthest cards are words; three that edit it in its buffer, and two that read it from comma lines and write it as such, each with
+// one word beside its result; one that tells a card's likely scenario, by three words; and one that tells whether a stored answer is old.
 #![tactic(auto)]
 
 ghost use Rattle.std.specs.Prelude.{◌≡◌, length};
 ghost use Rattle.card.specs.declared.Class.TheVariants.{Toxic, Flammable};
 ghost use Rattle.cards.specs.Register.{outcome_of, buffer_of};
 ghost use Rattle.prefix.specs.Prefix.{prefix_of};
+ghost use Rattle.edits.specs.Edits.{add, replace, withdraw, edit_of, buffer_after};
 ghost use Rattle.comma.specs.Text.{reading_of, read_into};
 ghost use Rattle.write_lines.specs.Writing.{writing_of, write_into};
 ghost use Rattle.words.specs.Words.{code_of, word_after, conversion_code, conversion_at, flag_of};
@@ -46,6 +47,39 @@ pub extern "C" fn rings_leaders_after(
 {
     let outcome = prefix::leaders_after(register, cards);
     words::tell(outcome, toxic, flammable)
+}
+
+// Adds a card to the register that a lent buffer starts with.
+#[unsafe(no_mangle)]
+pub extern "C" fn rings_add(buffer: &mut [u8], card: &[u8; 24], at: &mut u64) -> u64
+    ensures value { result ≡ conversion_code (edit_of (add card.now) buffer.old) }
+    ensures buffer_after { buffer.new ≡ buffer_after (add card.now) buffer.old }
+    ensures at_after { at.new ≡ conversion_at (edit_of (add card.now) buffer.old) }
+{
+    let edited = edit::add(buffer, card);
+    words::tell_edit(edited, at)
+}
+
+// Replaces the card of the same number.
+#[unsafe(no_mangle)]
+pub extern "C" fn rings_replace(buffer: &mut [u8], card: &[u8; 24], at: &mut u64) -> u64
+    ensures value { result ≡ conversion_code (edit_of (replace card.now) buffer.old) }
+    ensures buffer_after { buffer.new ≡ buffer_after (replace card.now) buffer.old }
+    ensures at_after { at.new ≡ conversion_at (edit_of (replace card.now) buffer.old) }
+{
+    let edited = edit::replace(buffer, card);
+    words::tell_edit(edited, at)
+}
+
+// Withdraws the card of a number.
+#[unsafe(no_mangle)]
+pub extern "C" fn rings_withdraw(buffer: &mut [u8], number: u32, at: &mut u64) -> u64
+    ensures value { result ≡ conversion_code (edit_of (withdraw number) buffer.old) }
+    ensures buffer_after { buffer.new ≡ buffer_after (withdraw number) buffer.old }
+    ensures at_after { at.new ≡ conversion_at (edit_of (withdraw number) buffer.old) }
+{
+    let edited = edit::withdraw(buffer, number);
+    words::tell_edit(edited, at)
 }
 
 // Reads comma lines into a lent register.

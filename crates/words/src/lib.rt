@@ -65,3 +65,13 @@ pub fn conversion_at(converted: Result<usize, SentBack<usize>>) -> u64
         Err(sent) => sent.place as u64,
     }
 }
+
+// An edit by the same two words: how long the register now is, or the place of the refusal, stands beside the result.
+pub fn tell_edit(edited: Result<usize, SentBack<u32>>, at: &mut u64) -> u64
+    ensures value { result ≡ conversion_code edited }
+    ensures at_after { at.new ≡ conversion_at edited }
+{
+    let converted = edited.map_err(SentBack::<usize>::from);
+    *at = conversion_at(converted);
+    conversion_code(converted)
+}

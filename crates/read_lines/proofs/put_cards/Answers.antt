@@ -1,12 +1,8 @@
-use Rattle.std.specs.Prelude.{◌+◌, ◌*◌, ◌≡◌, Some, length}
-use Rattle.std.proofs.Common.{arith, rules, sym}
-use Rattle.std.proofs.lemmas.List.Edits.{sets}
+use Rattle.std.specs.Prelude.{◌+◌, ◌≡◌, Some}
+use Rattle.std.proofs.Common.{arith, rules}
 use Rattle.std.proofs.lemmas.Grind.{common_steps}
 use Rattle.std.specs.Iterator.Adapters.{zip_first, zip_second}
-use Rattle.buffer.proofs.Laws.{lent}
-use Rattle.comma.specs.Text.{cards_in, card_bytes}
 use Rattle.count_lines.specs.Left.{lines_left}
-use Rattle.read_lines.specs.Walk.{laid_from}
 use Rattle.read_lines.specs.Laws.{lay_start, lay_counted, lay_next, lay_turn, lay_bad, lay_end, lay_none}
 use Rattle.read_lines.proofs.put_cards.Goals as goal
 

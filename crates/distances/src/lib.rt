@@ -1,0 +1,2 @@
+// How far a distance may be: a crate of theorems, in specs/ and proofs/. It has no code of its own.
+#![tactic(auto)]
