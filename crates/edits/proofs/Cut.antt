@@ -29,14 +29,14 @@ place_unique n cards i h before here =
         let w = here m in omega (arith, z, w)
 
 -- behind a number that is not below it, no card is
-below_none : {last : ℕ} {cards : List (List ℕ)} (n : ℕ) → n ≤ suc last → Rising last cards → below n cards ≡ []
+pub below_none : {last : ℕ} {cards : List (List ℕ)} (n : ℕ) → n ≤ suc last → Rising last cards → below n cards ≡ []
 unfolding below
 below_none n h no_more = refl
 below_none n h (higher {last} {card} {rest} l r) =
     ap (λ b. keep_if b card (below n rest)) (le-ltb (card_number card) n (omega arith)) ∙ below_none n (omega arith) r
 
 -- every card is above it
-above_all : {last : ℕ} {cards : List (List ℕ)} (n : ℕ) → n ≤ last → Rising last cards → above n cards ≡ cards
+pub above_all : {last : ℕ} {cards : List (List ℕ)} (n : ℕ) → n ≤ last → Rising last cards → above n cards ≡ cards
 unfolding above
 above_all n h no_more = refl
 above_all n h (higher {last} {card} {rest} l r) =

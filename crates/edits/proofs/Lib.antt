@@ -2,3 +2,4 @@ pub mod Rising
 pub mod Cut
 pub mod Lists
 mod Ends
+pub mod Brought

@@ -1,0 +1,4 @@
+pub mod EditExactly
+mod Sources
+pub mod EditPlain
+pub mod EditZero

@@ -1,0 +1,2 @@
+pub mod EditConditions
+pub mod EditClaim
