@@ -1,5 +1,5 @@
--- The cards around a number, as the code finds them: numbers rise, so the cards before the first that is not below it are those with a
--- lower number. It serves the proofs.
+-- The cards around a number, as the code finds them: where numbers rise, the cards before the first that is not below it are those with a
+-- lower number. And what an edit brings. It serves the proofs.
 -- Assumes nothing.
 use Rattle.std.specs.Prelude.{ℕ, ◌≡◌, Bool, true, false, List, [], ◌∷◌, map, eqb}
 use Rattle.search.specs.Rising.{first_at_least}
