@@ -5,11 +5,15 @@
 ghost use Rattle.std.specs.Prelude.{◌≡◌, ◌+◌, ◌*◌, ◌≤◌, ◌++◌, length};
 ghost use Rattle.std.specs.List.{concat};
 ghost use Rattle.buffer.specs.Puts.{Room, Puts};
-ghost use Rattle.edits.specs.Edits.{card_number, below, above, bad_presence, bad_capacity, header_bytes, held};
+ghost use Rattle.header.specs.Header.{size_of};
+ghost use Rattle.edits.specs.Edits.{card_number, below, above, bad_presence, bad_capacity, header_bytes, held, edit_layout};
 ghost use Rattle.edits.specs.Around.{AllPass, place_of, named_in};
 
 use buffer::Writer;
 use header::Stored;
+
+// The version that an edit makes.
+const VERSION: u8 = 2;
 
 // The register that a buffer starts with: as many bytes as its length field says, or all there are.
 #[tactic(auto, unfolding(crate::specs::Edits::held))]
@@ -61,6 +65,14 @@ pub fn around(cards: &[[u8; 24]], number: u32) -> (&[[u8; 24]], &[[u8; 24]], &[[
     (front, named, behind)
 }
 
+// The bytes of a register of the version that an edit makes, with so many cards.
+pub fn size_of(count: usize) -> usize
+    requires { count ≤ 2_001 }
+    ensures { result ≡ size_of edit_layout count }
+{
+    header::SECOND.header + header::SECOND.card * count
+}
+
 // 19: the card of a number has to be there and is not, or must not be there and is.
 pub fn bad_presence(wanted: bool, there: bool) -> bool
     ensures { result ≡ bad_presence wanted there }
@@ -73,7 +85,7 @@ pub fn bad_presence(wanted: bool, there: bool) -> bool
 pub fn bad_capacity(room: usize, count: usize) -> bool
     ensures { result ≡ bad_capacity room count }
 {
-    header::MOST_CARDS < count || room < 11 + 24 * count
+    header::MOST_CARDS < count || room < size_of(count)
 }
 
 // The header of a register of so many cards, with the distances that it stores.
@@ -82,9 +94,8 @@ pub fn put_header(out: &mut Writer, count: usize, distances: Stored)
     ensures wrote { Puts out.old out.new (header_bytes count distances) }
     ensures value { out.new.at ≡ out.old.at + 11 }
 {
-    let whole = 11 + 24 * count;
-    buffer::put_four(out, whole as u32);
-    buffer::put_byte(out, 2);
+    buffer::put_four(out, size_of(count) as u32);
+    buffer::put_byte(out, VERSION);
     buffer::put_two(out, count as u16);
     buffer::put_two(out, distances.toxic);
     buffer::put_two(out, distances.flammable);

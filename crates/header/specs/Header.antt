@@ -40,7 +40,7 @@ layout_of v =
       | false ↦ elim (eqb v 2) [ true ↦ Some second_layout | false ↦ None ]
     ]
 
--- a version that nobody gives has no layout, and is sent back before one is asked for
+-- a version that nobody gives has no layout; its register is sent back with 2
 abbrev pub laid : Option Layout → Layout
 laid (Some l) = l
 laid None = record { header = 0; card = 0; stores = false }

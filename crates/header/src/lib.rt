@@ -27,22 +27,28 @@ pub struct Stored {
     pub flammable: u16,
 }
 
+// Version 1.
+pub const FIRST: Layout = Layout {
+    header: 7,
+    card: 24,
+    stores: false,
+};
+
+// Version 2, which an edit makes.
+pub const SECOND: Layout = Layout {
+    header: 11,
+    card: 24,
+    stores: true,
+};
+
 // The versions: the one place in the code that tells them apart.
 #[tactic(auto, unfolding(crate::specs::Header::layout_of))]
 pub fn layout_of(version: u8) -> Option<Layout>
     ensures { result ≡ layout_of version }
 {
     match version {
-        1 => Some(Layout {
-            header: 7,
-            card: 24,
-            stores: false,
-        }),
-        2 => Some(Layout {
-            header: 11,
-            card: 24,
-            stores: true,
-        }),
+        1 => Some(FIRST),
+        2 => Some(SECOND),
         _ => None,
     }
 }
