@@ -1,6 +1,6 @@
 -- One law for each return of the stages of an edit.
 -- Assumes nothing.
-use Rattle.std.specs.Prelude.{ℕ, ◌+◌, ◌-◌, ◌*◌, ◌≤◌, ◌≡◌, refl, Bool, true, false, List, [], ◌∷◌, ◌++◌, length, take, drop, ltb, replicate, Option, Result, Ok, Err}
+use Rattle.std.specs.Prelude.{ℕ, ◌+◌, ◌-◌, ◌≤◌, ◌≡◌, refl, Bool, true, false, List, [], ◌∷◌, ◌++◌, length, take, drop, ltb, replicate, Option, Result, Ok, Err}
 use Rattle.std.specs.List.{concat}
 use Rattle.std.proofs.Common.{arith, ◌∙◌, sym, ap, ap₂, subst, length-append, take_at}
 use Rattle.std.proofs.lemmas.List.Folds.{concat-append}
@@ -17,14 +17,14 @@ use Rattle.buffer.specs.declared.Writer.{Writer}
 use Rattle.buffer.specs.Puts.{Puts}
 use Rattle.buffer.proofs.Laws.{then, written_first}
 use Rattle.header.specs.declared.Stored.{Stored}
-use Rattle.header.specs.Header.{count_of, cards_in, stored_in, header_of, enough, Whole, Fitting}
+use Rattle.header.specs.Header.{count_of, cards_in, stored_in, header_of, enough, Whole, Fitting, size_of}
 use Rattle.header.proofs.Cards.{cards_counted}
 use Rattle.header.proofs.Ends.{header_fitting}
 use Rattle.running.specs.declared.Running.{Running}
 use Rattle.cards.specs.Distances.{distances_of}
 use Rattle.cards.specs.Register.{Cards, answers, sent_back, cards_from, result_of, settled, outcome_of}
 use Rattle.cards.proofs.Laws.{header_refused, header_good, good_header, good_count}
-use Rattle.edits.specs.Edits.{below, above, is_there, with_number, bad_presence, bad_capacity, header_bytes, register_of, laid, register_with, held, unless_bad, changed, after_old, register_by, length_of, left_by}
+use Rattle.edits.specs.Edits.{below, above, is_there, with_number, bad_presence, bad_capacity, header_bytes, register_of, laid, register_with, held, unless_bad, changed, after_old, register_by, length_of, left_by, edit_layout}
 use Rattle.edits.specs.Around.{AllPass, Brings}
 use Rattle.edits.proofs.Cut.{there_is}
 use Rattle.edit_walk.specs.Parts.{merged, part_of, Accepted, Walked}
@@ -213,17 +213,17 @@ module _ (s : Option Stored) (n : ℕ) (wanted : Bool) (brought cards : List (Li
         unfolding bad_capacity
         few = let z = clear n wanted brought cards room front behind (low pass) (high pass) x e q in grind (arith, nat_tests, z)
 
-        roomy : 11 + 24 * (length front + (length brought + length behind)) ≤ room
+        roomy : size_of edit_layout (length front + (length brought + length behind)) ≤ room
         unfolding bad_capacity
         roomy = let z = clear n wanted brought cards room front behind (low pass) (high pass) x e q in grind (arith, nat_tests, z)
 
         pub way_length : (y : Result ℕ (SentBack ℕ)) → y ≡ length_of (register_with (front ++ (brought ++ behind))) → y ≡ length_of (change_of s n wanted brought cards room)
         way_length y h = h ∙ sym (ap length_of (onward (Ok tt) q))
 
-        pub way_laid : (own : List ℕ) → LaidIn own (11 + 24 * (length front + (length brought + length behind))) (register_with (front ++ (brought ++ behind))) → LaidIn own room (change_of s n wanted brought cards room)
+        pub way_laid : (own : List ℕ) → LaidIn own (size_of edit_layout (length front + (length brought + length behind))) (register_with (front ++ (brought ++ behind))) → LaidIn own room (change_of s n wanted brought cards room)
         way_laid own h = go (register_with (front ++ (brought ++ behind))) (sym (onward (Ok tt) q)) h
           where
-            go : (y : Result (List ℕ) (SentBack ℕ)) → y ≡ change_of s n wanted brought cards room → LaidIn own (11 + 24 * (length front + (length brought + length behind))) y → LaidIn own room (change_of s n wanted brought cards room)
+            go : (y : Result (List ℕ) (SentBack ℕ)) → y ≡ change_of s n wanted brought cards room → LaidIn own (size_of edit_layout (length front + (length brought + length behind))) y → LaidIn own room (change_of s n wanted brought cards room)
             go (Ok register) i v = subst (LaidIn own room) i (v.0, v.1, omega (arith, v.2, roomy))
             go (Err sent) i v = subst (LaidIn own room) i tt
 
@@ -247,7 +247,7 @@ module _ (n : ℕ) (wanted : Bool) (brought : List (List ℕ)) (buffer : List �
       pub held_few : length cards ≤ 2_000
       held_few = good_count register enough (header_of register enough) refl (count_of register) good cards c
 
-      pub held_room : 35 + 24 * length cards ≤ room
+      pub held_room : size_of edit_layout (length cards + 1) ≤ room
       held_room = let z : length cards ≡ count_of (held buffer) = ap length c ∙ (cards_counted register ∙ ap count_of r) in omega (arith, z, h.1)
 
       module _ (s : Option Stored) (d : s ≡ stored_in register) where
@@ -282,5 +282,5 @@ module _ (buffer register : List ℕ) (r : register ≡ held buffer) (x : Result
     pub count_most : count ≤ 2_000
     count_most = fits.cards
 
-    pub ready : (room : ℕ) → 35 + 24 * count ≤ room → Ready (held buffer) room
+    pub ready : (room : ℕ) → size_of edit_layout (count + 1) ≤ room → Ready (held buffer) room
     ready room h = (sym header ∙ q ∙ ap Ok fits.counted, let z = fits.counted in omega (arith, z, h))

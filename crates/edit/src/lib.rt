@@ -3,7 +3,8 @@
 #![tactic(auto)]
 
 ghost use Rattle.std.specs.Prelude.{◌≡◌, ◌+◌, ◌*◌, ◌≤◌, ◌++◌, length};
-ghost use Rattle.edits.specs.Edits.{add, replace, withdraw, bad_presence, bad_capacity, register_with, register_by, held, length_of, edit_of, left_by, buffer_after};
+ghost use Rattle.header.specs.Header.{size_of};
+ghost use Rattle.edits.specs.Edits.{add, replace, withdraw, edit_layout, bad_presence, bad_capacity, register_with, register_by, held, length_of, edit_of, left_by, buffer_after};
 ghost use Rattle.edits.specs.Around.{Brings};
 ghost use Rattle.edit.specs.Laid.{Ready, change_of, way_of, Known, LaidIn};
 
@@ -37,10 +38,10 @@ fn lay(
     own: &mut [u8],
 ) -> Result<usize, SentBack<u32>>
     requires few { length front.now + (length brought.now + length behind.now) ≤ 2000 }
-    requires roomy { 11 + 24 * (length front.now + (length brought.now + length behind.now)) ≤ length own.old }
+    requires roomy { size_of edit_layout (length front.now + (length brought.now + length behind.now)) ≤ length own.old }
     requires known { Known front.now brought.now behind.now before after }
     ensures value { result ≡ length_of (register_with (front.now ++ (brought.now ++ behind.now))) }
-    ensures laid { LaidIn own.new (11 + 24 * (length front.now + (length brought.now + length behind.now))) (register_with (front.now ++ (brought.now ++ behind.now))) }
+    ensures laid { LaidIn own.new (size_of edit_layout (length front.now + (length brought.now + length behind.now))) (register_with (front.now ++ (brought.now ++ behind.now))) }
 {
     let with = edit_walk::part(brought, before)?;
     let leaders = edit_walk::merge(before.leaders, edit_walk::merge(with.leaders, after));
@@ -64,7 +65,7 @@ fn change(
     room: usize,
     own: &mut [u8],
 ) -> Result<usize, SentBack<u32>>
-    requires { (length cards.now ≤ 2000) × (35 + 24 * length cards.now ≤ length own.old) × Brings number brought.now }
+    requires { (length cards.now ≤ 2000) × (size_of edit_layout (length cards.now + 1) ≤ length own.old) × Brings number brought.now }
     ensures value { result ≡ length_of (change_of stored number wanted brought.now cards.now room) }
     ensures laid { LaidIn own.new room (change_of stored number wanted brought.now cards.now room) }
 {

@@ -4,6 +4,7 @@ use Rattle.std.specs.Prelude.{ℕ, ◌-◌, ◌≤◌, ◌≡◌, refl, Bool, tr
 use Rattle.std.proofs.Common.{arith, ◌∙◌, sym, ap, ap₂, subst, inl, inr, ⊎_elim, ltb-false, length-append}
 use Rattle.std.proofs.lemmas.Bool.Decides.{nat_tests}
 use Rattle.std.proofs.lemmas.List.{length-replicate}
+use Rattle.search.specs.Laws.{clash}
 use Rattle.search.specs.Places.{either}
 use Rattle.refusals.specs.declared.Refusal.TheVariants as refusal
 use Rattle.refusals.specs.declared.SentBack.{SentBack}
@@ -19,9 +20,9 @@ use Rattle.cards.proofs.Laws.{accepted_fits}
 use Rattle.header.proofs.Cards.{Sized}
 use Rattle.ordering.proofs.Found.{found}
 use Rattle.conditions.proofs.Afresh.{afresh}
-use Rattle.edits.specs.Edits.{Edit, add, replace, withdraw, named, takes, brings, edited, is_there, bad_presence, bad_capacity, edit_layout, register_of, laid, register_with, held, unless_bad, changed, after_old, register_by, register_after, length_of, left_by}
+use Rattle.edits.specs.Edits.{Edit, add, replace, withdraw, named, takes, brings, edited, is_there, bad_presence, bad_capacity, edit_layout, register_of, laid, register_with, held, unless_bad, changed, after_old, register_by, register_after, length_of, left_by, buffer_after}
 use Rattle.edits.proofs.Lists.{sized_none, sized_more, cards_sized, sized_edited, unnamed}
-use Rattle.edit_history.specs.Claim.{WholeCard, after_all, join_if, accepted, applied, StartsAccepted, Afresh, Renewed, Upheld, EditsKept}
+use Rattle.edit_history.specs.Claim.{WholeCard, after_all, join_if, accepted, applied, StartsAccepted, Afresh, Renewed, Upheld, EditsKept, RefusedKept, LengthTold}
 use Rattle.edit_history.proofs.Back.{length_is, version_is, cards_are, accepts, held_back, rest_back}
 
 -- ---- the distances of an accepted register that stores them
@@ -166,3 +167,23 @@ edits_kept first (e ∷ rest) s w = go (steps e w.0 first s.1) (λ b t. edits_ke
     go : Refused e first ⊎ Done e first → ((b : List ℕ) → StartsAccepted b → Upheld b (after_all rest b) (accepted rest b)) → With (register_after e first)
     go (inl k) ih = subst With (sym k.1) (ih first s)
     go (inr d) ih = subst With (sym d.after) (in_front e first d (ih (next e first d) (next_accepted e first d)))
+
+-- ---- one edit, in plain words
+
+pub refused_kept : RefusedKept
+refused_kept e buffer sent = go (register_after e buffer)
+  where
+    go : (r : Result (List ℕ) (SentBack ℕ)) → length_of r ≡ Err sent → left_by r buffer ≡ buffer
+    go (Ok register) q = clash (cc)
+    go (Err other) q = refl
+
+pub length_told : LengthTold
+unfolding Refused
+length_told e buffer n s w q = go (steps e w buffer s.1)
+  where
+    go : Refused e buffer ⊎ Done e buffer → n ≡ length (held (buffer_after e buffer))
+    go (inl k) = clash (let z : Err k.0 ≡ Ok n = sym (ap length_of k.1) ∙ q in cc)
+    go (inr d) =
+        let told : Ok (length (register e buffer d)) ≡ Ok n = sym (ap length_of d.after) ∙ q in
+        let z : n ≡ length (register e buffer d) = cc in
+        z ∙ (sym (ap length (held_is e buffer d)) ∙ ap (λ r. length (held (left_by r buffer))) (sym d.after))

@@ -1,6 +1,6 @@
 -- Document 02, A9: "For every list of edits on an accepted register, the two distances, once stored, are those worked out afresh, refused
 -- edits included, and cards not named keep their bytes." What it says of the bytes of a buffer and of the results of the calls. The
--- theorem is `edits_kept` of `proofs/History.antt`.
+-- theorem is `edits_kept` of `proofs/History.antt`; two sentences on a single edit are `refused_kept` and `length_told` there.
 -- Assumes nothing.
 use Rattle.std.specs.Prelude.{ℕ, ◌-◌, ◌≡◌, true, List, [], ◌∷◌, length, drop, replicate, ◌↔◌, ◌⊎◌, Result, Ok, Err, Contains}
 use Rattle.refusals.specs.declared.SentBack.{SentBack}
@@ -85,3 +85,15 @@ abbrev pub EditsKept : Type 0
 EditsKept =
     (first : List ℕ) (edits : List Edit) → StartsAccepted first → WholeCards edits
     → Upheld first (after_all edits first) (accepted edits first)
+
+-- ---- one edit, in plain words
+
+-- "A refusal .. changes no byte of any lent buffer", bytes behind the register included: of any buffer, whatever it starts with
+abbrev pub RefusedKept : Type 0
+RefusedKept = (e : Edit) (buffer : List ℕ) (sent : SentBack ℕ) → edit_of e buffer ≡ Err sent → buffer_after e buffer ≡ buffer
+
+-- an accepted edit answers how long the register now is
+abbrev pub LengthTold : Type 0
+LengthTold =
+    (e : Edit) (buffer : List ℕ) (n : ℕ) → StartsAccepted buffer → WholeCard e
+    → edit_of e buffer ≡ Ok n → n ≡ length (held (buffer_after e buffer))
