@@ -14,7 +14,7 @@
 extern "C" {
 #endif
 
-#define RINGS_HEADER_LEN 7                                                          /* bytes before the first card */
+#define RINGS_HEADER_LEN 7                                                          /* bytes before the first card in version 1 */
 #define RINGS_STORED_HEADER_LEN 11                                                  /* the same in version 2 */
 #define RINGS_CARD_LEN 24                                                           /* bytes of a card */
 #define RINGS_ANSWER_LEN 16                                                         /* bytes of a card's answer */
@@ -166,8 +166,9 @@ uint64_t rings_read_lines(const uint8_t *text_ptr, size_t text_len,
  * text_len       the buffer's length in bytes; RINGS_MAX_STRICT_LEN is enough for any register.
  * at             set in every case: to the text's length in bytes, or to the refusal's place.
  *
- * Returns 0 if the lines are written. A refusal is its number and changes no byte of the buffer: first those that
- * rings_answer gives for the register, but never RINGS_BUFFER, with the card's place, counted from 0; then RINGS_ROOM.
+ * Returns 0 if the lines are written. A refusal is its number and changes no byte of the buffer: RINGS_LENGTH, then
+ * RINGS_VERSION, then those that rings_answer gives for the register, but never RINGS_BUFFER, with the card's place, counted
+ * from 0; then RINGS_ROOM.
  *
  * For pointers, overlaps and threads the rules of rings_read_lines hold.
  */

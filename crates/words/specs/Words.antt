@@ -33,13 +33,14 @@ unfoldable pub word_after : Class → Result Leaders (SentBack ℕ) → ℕ → 
 word_after c (Ok leaders) before = word_of (leader_of c leaders)
 word_after c (Err sent) before = before
 
--- What a call between a text and a register returns: 0, or the number of its refusal. The place stands in a word of its own,
--- since a line's number need not fit thirty-two bits.
+-- What a call between a text and a register, or an edit, returns: 0, or the number of its refusal. The place stands in a word of its
+-- own, since a line's number need not fit thirty-two bits.
 unfoldable pub conversion_code : Result ℕ (SentBack ℕ) → ℕ
 conversion_code (Ok n) = 0
 conversion_code (Err sent) = number_of sent.refusal
 
--- that word, which is a part of the result and set in every case: how many bytes were written, or the place of the refusal
+-- that word, which is a part of the result and set in every case: how many bytes were written or how long the register now is, or the
+-- place of the refusal
 unfoldable pub conversion_at : Result ℕ (SentBack ℕ) → ℕ
 conversion_at (Ok n) = n
 conversion_at (Err sent) = sent.place
