@@ -1,3 +1,4 @@
+pub mod Cut
 pub mod Ends
 pub mod Laws
 pub mod Walked

@@ -3,20 +3,19 @@
 -- Assumes nothing.
 use Prim.Native.Nat.{ℕ, zero, suc, ◌+◌, ◌*◌, ◌/◌, ◌%◌, ◌^◌, ◌≤◌, ◌<◌}
 use Rattle.std.proofs.Common.{add-one, arith, sym, ap, ap₂, ◌∙◌, inl, inr, length-append, length-take, length-drop, take-append-drop, drop_of_length-le, take_at, drop_at, drop-cons, get_or-take, get_or-drop, length-take-le}
-use Rattle.std.specs.Prelude.{◌≡◌, false, ◌⊎◌, length, take, drop, map}
+use Rattle.std.specs.Prelude.{◌≡◌, ◌⊎◌, length, take, drop, map}
 use Rattle.std.specs.Simd.{first_chunks}
 use Rattle.std.proofs.lemmas.List.{length-map}
 use Rattle.std.proofs.Math.Path.{refl}
 use mathlib.Core.List.{List, [], ◌∷◌, ◌++◌, append-nil, append_assoc}
 use Rattle.std.proofs.Math.ListN.{get_or-eq_default}
-use borrow.Author.Tests.{le-ltb, eq-eqb}
 use Rattle.search.specs.Laws.{lt_or_ge}
 use Rattle.buffer.specs.Numbers.{byte_at, two_at, four_at, two_bytes, four_bytes}
 use Rattle.buffer.proofs.Laws.{read_two, read_four}
 use Rattle.fields.specs.declared.Fields.{Fields}
 use Rattle.fields.specs.Layout.{fields_of}
 use Rattle.header.specs.declared.Layout.{Layout}
-use Rattle.header.specs.Header.{version_of, count_of, first_layout, layout_of, laid, layout_in, size_of as size_in, cards_in, Whole, bad_length, bad_version, bad_count, unknown}
+use Rattle.header.specs.Header.{version_of, count_of, first_layout, layout_of, laid, layout_in, size_of as size_in, cards_in, Whole}
 use Rattle.header.proofs.Cards.{cards_counted}
 use Rattle.comma.specs.Text.{card_bytes, bytes_of, size_of, header_bytes, register_of}
 use Rattle.comma.proofs.StrictLaws.{Fitting, AllFitting}
@@ -221,28 +220,3 @@ register_back bytes all w whole version =
     ∙ cards_back n (drop 7 bytes) (drop_bytes 7 bytes all) (simp length-drop (omega arith)) in
     ap₂ (λ k b. header_bytes k ++ b) (register_counted bytes) cut
     ∙ header_back bytes n all (omega arith) (whole ∙ long) version refl
-
--- ---- the register of at most 2,000 cards passes the checks of a header
-
-module _ (xs : List Fields) (few : length xs ≤ 2_000) where
-  -- its header says how long it is
-  register_whole : four_at (register_of xs) 0 ≡ size_of (length xs)
-  unfolding register_of header_bytes two_bytes four_bytes
-  register_whole = read_four (size_of (length xs)) [] (omega arith)
-
-  -- so none of the checks 1 to 3 refuses it
-  pub good_length : bad_length (register_of xs) ≡ false
-  unfolding bad_length
-  good_length =
-      let size : ℕ = size_of (length xs) in
-      rw (register_whole, register_length xs, le-ltb size 7 (omega arith), eq-eqb size size refl)
-
-  pub good_version : bad_version (register_of xs) ≡ false
-  unfolding bad_version layout_of
-  good_version = ap (λ v. unknown (layout_of v)) (register_version xs)
-
-  pub good_count : bad_count (register_of xs) ≡ false
-  unfolding bad_count
-  good_count =
-      let size : ℕ = size_of (length xs) in
-      rw (first_laid (register_of xs) (register_version xs), register_count xs few, register_length xs, le-ltb 2_000 (length xs) few, eq-eqb size size refl)

@@ -1,6 +1,6 @@
 -- One law for each return of the stages of an edit.
 -- Assumes nothing.
-use Rattle.std.specs.Prelude.{ℕ, ◌+◌, ◌-◌, ◌≤◌, ◌≡◌, refl, Bool, true, false, List, [], ◌∷◌, ◌++◌, length, take, drop, ltb, replicate, Option, Result, Ok, Err}
+use Rattle.std.specs.Prelude.{ℕ, ◌+◌, ◌-◌, ◌≤◌, ◌≡◌, refl, Bool, true, false, List, ◌++◌, length, take, drop, ltb, replicate, Option, Result, Ok, Err}
 use Rattle.std.specs.List.{concat}
 use Rattle.std.proofs.Common.{arith, ◌∙◌, sym, ap, ap₂, subst, length-append, take_at}
 use Rattle.std.proofs.lemmas.List.Folds.{concat-append}
@@ -178,12 +178,6 @@ module _ (s : Option Stored) (n : ℕ) (wanted : Bool) (brought cards : List (Li
   outcome : result_of (settled s (cards_from 0 0 (front ++ (named ++ behind)))) ≡ result_of (settled s (cards_from 0 0 cards))
   outcome = ap (λ (cs : List (List ℕ)). result_of (settled s (cards_from 0 0 cs))) a
 
-  pub counted_parts : length front + (length named + length behind) ≡ length cards
-  counted_parts = let z = ap length a in omega (arith, z, length-append front (named ++ behind), length-append named behind)
-
-  pub old_sent : (b : SentBack ℕ) → result_of (settled s (cards_from 0 0 (front ++ (named ++ behind)))) ≡ Err b → change_of s n wanted brought cards room ≡ Err b
-  old_sent b e = ap (λ y. after_old y (changed n wanted brought cards room)) (sym outcome ∙ e)
-
   module _ (low : AllPass cards → front ≡ below n cards) (high : AllPass cards → behind ≡ above n cards) (y : Result (Running × Leaders) (SentBack ℕ)) (walked : Walked s front named behind y)
       (t : Running) (l : Leaders) (k : y ≡ Ok (t, l)) where
     w : Accepted s front named behind t l
@@ -226,12 +220,6 @@ module _ (s : Option Stored) (n : ℕ) (wanted : Bool) (brought cards : List (Li
             go : (y : Result (List ℕ) (SentBack ℕ)) → y ≡ change_of s n wanted brought cards room → LaidIn own (size_of edit_layout (length front + (length brought + length behind))) y → LaidIn own room (change_of s n wanted brought cards room)
             go (Ok register) i v = subst (LaidIn own room) i (v.0, v.1, omega (arith, v.2, roomy))
             go (Err sent) i v = subst (LaidIn own room) i tt
-
--- what an edit brings is one card at most
-pub brings_one : (n : ℕ) (brought : List (List ℕ)) → Brings n brought → length brought ≤ 1
-brings_one n [] b = omega arith
-brings_one n (card ∷ []) b = omega arith
-brings_one n (card ∷ other ∷ rest) b = absurd b
 
 -- ---- the register that the buffer starts with
 

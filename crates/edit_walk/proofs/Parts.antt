@@ -1,22 +1,22 @@
 -- Cards that stand one behind the other: what they come to, part by part.
 -- Assumes nothing.
-use Rattle.std.specs.Prelude.{ℕ, suc, ◌+◌, ◌≡◌, refl, List, [], ◌∷◌, ◌++◌, length, Option, Result, Ok, Err}
+use Rattle.std.specs.Prelude.{ℕ, ◌+◌, ◌≡◌, refl, List, ◌++◌, length, Option, Result, Ok, Err}
 use Rattle.std.proofs.Common.{arith, ◌∙◌, sym, ap, ap₂}
 use Rattle.search.specs.Laws.{clash}
 use Rattle.refusals.specs.declared.Refusal.{Refusal}
 use Rattle.refusals.specs.declared.SentBack.{SentBack}
 use Rattle.refusals.specs.Numbers.{refused_at}
 use Rattle.card.specs.declared.Answer.{Answer}
-use Rattle.card.specs.Answers.{answer_of}
 use Rattle.farthest.specs.declared.Leaders.{Leaders}
 use Rattle.farthest.specs.Farthest.{leaders_of}
 use Rattle.header.specs.declared.Stored.{Stored}
 use Rattle.running.specs.declared.Running.{Running}
-use Rattle.running.specs.Running.{before_cards, after_card, running_after}
+use Rattle.running.specs.Running.{before_cards, running_after}
 use Rattle.running.proofs.Laws.{running_leaders, running_place}
 use Rattle.walk.specs.Walk.{nothing_of, walk_from}
 use Rattle.cards.specs.Distances.{held_to}
-use Rattle.cards.specs.Register.{Cards, answers, sent_back, joined, then, cards_from, settled, result_of}
+use Rattle.cards.specs.Register.{Cards, answers, sent_back, cards_from, settled, result_of}
+use Rattle.cards.proofs.Cut.{in_front, front_answers, front_sent_back, cut_answered, cut_sent_back}
 use Rattle.cards.proofs.Laws.{cards_count, settled_result}
 use Rattle.cards.proofs.Walked.{passed, stopped}
 use Rattle.edit_walk.specs.Parts.{merged, afresh, ended, part_of, leads_behind, Accepted}
@@ -37,47 +37,13 @@ module _ (s : Running) (cards : List (List ℕ)) (x : Result (Running × ℕ) (S
 
 -- ---- cards behind a part
 
--- so many answers more in front
-before : List Answer → Cards → Cards
-before [] c = c
-before (a ∷ xs) c = joined a (before xs c)
-
-abbrev followed : Running → Cards → (Running → Cards) → Cards
-followed s (answers xs) further = before xs (further (running_after s xs))
-followed s (sent_back r place) further = sent_back r place
-
-cards_append : (s : Running) (xs ys : List (List ℕ)) → cards_from s.place s.last (xs ++ ys) ≡ followed s (cards_from s.place s.last xs) (λ t. cards_from t.place t.last ys)
-unfolding cards_from running_after before
-cards_append s [] ys = refl
-cards_append s (card ∷ xs) ys = go (answer_of card s.last) (λ a. cards_append (after_card s a) xs ys)
-  where
-    onward : (a : Answer) (c : Cards) → joined a (followed (after_card s a) c (λ t. cards_from t.place t.last ys)) ≡ followed s (joined a c) (λ t. cards_from t.place t.last ys)
-    onward a (answers zs) = refl
-    onward a (sent_back r place) = refl
-
-    go : (x : Result Answer Refusal)
-        → ((a : Answer) → cards_from (suc s.place) a.number (xs ++ ys) ≡ followed (after_card s a) (cards_from (suc s.place) a.number xs) (λ t. cards_from t.place t.last ys))
-        → then x s.place (λ n. cards_from (suc s.place) n (xs ++ ys)) ≡ followed s (then x s.place (λ n. cards_from (suc s.place) n xs)) (λ t. cards_from t.place t.last ys)
-    go (Ok a) ih = ap (joined a) (ih a) ∙ onward a (cards_from (suc s.place) a.number xs)
-    go (Err r) ih = refl
-
-before_answers : (xs ys : List Answer) → before xs (answers ys) ≡ answers (xs ++ ys)
-unfolding before
-before_answers [] ys = refl
-before_answers (a ∷ xs) ys = ap (joined a) (before_answers xs ys)
-
-before_sent : (xs : List Answer) (r : Refusal) (place : ℕ) → before xs (sent_back r place) ≡ sent_back r place
-unfolding before
-before_sent [] r place = refl
-before_sent (a ∷ xs) r place = ap (joined a) (before_sent xs r place)
-
 abbrev merged_in : Leaders → Result Leaders (SentBack ℕ) → Result Leaders (SentBack ℕ)
 merged_in l (Ok m) = Ok (merged l m)
 merged_in l (Err sent) = Err sent
 
-before_result : (xs : List Answer) (c : Cards) → result_of (before xs c) ≡ merged_in (leaders_of xs) (result_of c)
-before_result xs (answers ys) = ap result_of (before_answers xs ys) ∙ ap Ok (leaders_in_parts xs ys)
-before_result xs (sent_back r place) = ap result_of (before_sent xs r place)
+front_result : (xs : List Answer) (c : Cards) → result_of (in_front xs c) ≡ merged_in (leaders_of xs) (result_of c)
+front_result xs (answers ys) = ap result_of (front_answers xs ys) ∙ ap Ok (leaders_in_parts xs ys)
+front_result xs (sent_back r place) = ap result_of (front_sent_back xs r place)
 
 -- a part that came to its end
 pub record Through (s : Running) (cards : List (List ℕ)) (t : Running) : Type 0 where
@@ -121,14 +87,14 @@ module _ (s : Running) (cards : List (List ℕ)) where
     part_on : (t : Running) → part_of s cards ≡ Ok t → leads_behind s (cards ++ more) ≡ merged_in t.leaders (leads_behind t more)
     part_on t q =
         let p = through t q in
-        ap result_of (cards_append (afresh s) cards more ∙ ap (λ c. followed (afresh s) c (λ u. cards_from u.place u.last more)) p.answered)
-        ∙ (before_result p.list (cards_from (running_after (afresh s) p.list).place (running_after (afresh s) p.list).last more)
+        ap result_of (cut_answered (afresh s) cards more p.list p.answered)
+        ∙ (front_result p.list (cards_from (running_after (afresh s) p.list).place (running_after (afresh s) p.list).last more)
         ∙ ap₂ (λ l (u : Running). merged_in l (leads_behind u more)) p.leads p.running)
 
     part_stops : (b : SentBack ℕ) → part_of s cards ≡ Err b → leads_behind s (cards ++ more) ≡ Err b
     part_stops b q =
         let p = sent b q in
-        ap result_of (cards_append (afresh s) cards more ∙ ap (λ c. followed (afresh s) c (λ u. cards_from u.place u.last more)) p.2) ∙ ap Err p.3
+        ap result_of (cut_sent_back s.place s.last cards more p.0 p.1 p.2) ∙ ap Err p.3
 
 -- ---- three parts
 

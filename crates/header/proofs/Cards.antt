@@ -17,13 +17,6 @@ pub chunks_count : (size n : ℕ) (bytes : List ℕ) → length (first_chunks si
 chunks_count size zero bytes = refl
 chunks_count size (suc n) bytes = ap suc (chunks_count size n (drop size bytes))
 
-pub chunks_joined : (size n : ℕ) (bytes : List ℕ) → length bytes ≡ size * n → concat (first_chunks size n bytes) ≡ bytes
-chunks_joined size zero [] e = refl
-chunks_joined size zero (b ∷ bytes) e = absurd (omega (arith, e))
-chunks_joined size (suc n) bytes e =
-    let rest : length (drop size bytes) ≡ size * n = omega (arith, length-drop size bytes, mul-suc size n, e) in
-    ap (λ r. take size bytes ++ r) (chunks_joined size n (drop size bytes) rest) ∙ take-append-drop size bytes
-
 pub chunk_at : (size n : ℕ) (bytes : List ℕ) (i : ℕ) → i < n → get_or (first_chunks size n bytes) i [] ≡ take size (drop (size * i) bytes)
 chunk_at size zero bytes i h = absurd (omega (arith, h))
 chunk_at size (suc n) bytes zero h = simp unary_clauses refl
@@ -59,16 +52,10 @@ module _ (bytes : List ℕ) (l : Layout) (e : l ≡ layout_in bytes) (w : Whole 
       ∙ (ap (λ k. first_chunks k (count_of bytes) (drop l.header bytes)) (sym short_card)
       ∙ ap (λ (y : Layout). first_chunks y.card (count_of bytes) (drop y.header bytes)) e))
 
--- how many they are, and that their bytes are what stands behind the header
+-- how many they are
 pub cards_counted : (bytes : List ℕ) → length (cards_in bytes) ≡ count_of bytes
 unfolding cards_in
 cards_counted bytes = chunks_count (layout_in bytes).card (count_of bytes) (drop (layout_in bytes).header bytes)
-
-pub cards_joined : (bytes : List ℕ) → Whole bytes → concat (cards_in bytes) ≡ drop (layout_in bytes).header bytes
-unfolding cards_in
-cards_joined bytes w =
-    chunks_joined (layout_in bytes).card (count_of bytes) (drop (layout_in bytes).header bytes)
-    (omega (arith, length-drop (layout_in bytes).header bytes, w.register))
 
 -- ---- from the cards to the bytes
 

@@ -1,8 +1,8 @@
 -- The walk that writes lines comes to the lines of the cards and the leaders, and the outcome of a register to its text.
 -- Assumes nothing.
-use Rattle.std.specs.Prelude.{ℕ, ◌≤◌, ◌≡◌, refl, List, [], ◌∷◌, ◌++◌, length, take, Option, Some, Result, Ok, Err}
+use Rattle.std.specs.Prelude.{ℕ, ◌≤◌, ◌≡◌, refl, List, [], ◌∷◌, ◌++◌, length, Result, Ok, Err}
 use Rattle.refusals.specs.declared.SentBack.{SentBack}
-use Rattle.std.proofs.Common.{arith, ◌∙◌, ap₂, sym, subst, length-take}
+use Rattle.std.proofs.Common.{arith, ◌∙◌, ap₂, sym, subst}
 use Rattle.std.proofs.Math.Path.{ap}
 use Rattle.search.specs.Laws.{clash}
 use Rattle.refusals.specs.declared.Refusal.{Refusal}
@@ -20,7 +20,7 @@ use Rattle.cards.proofs.Walked.{Passed, passed_leaders, stopped}
 use Rattle.lines.specs.Lines.{card_line}
 use Rattle.closing.specs.Closing.{refused_line}
 use Rattle.listing.specs.Laws.{IsAccepted}
-use Rattle.listing.specs.Listing.{card_lines, leader_lines, listing_of, listed_after, Within}
+use Rattle.listing.specs.Listing.{card_lines, leader_lines, listing_of, listed_after}
 
 -- what the walk writes are the lines of the cards
 texts_lines : (xs : List Answer) → texts_of card_line xs ≡ card_lines xs
@@ -94,11 +94,3 @@ module _ (bytes : List ℕ) where
       go : (h : Result ℕ Refusal) → after_header h bytes ≡ Err sent → refused_line (number_of sent.refusal) sent.place ≡ listed_after h bytes
       go (Ok n) p = refused_text (cards_of bytes) p
       go (Err s) p = cc
-
--- ---- what a caller has who prints the text: it is a part of the buffer, from its start
-
-pub text_part : (room n : ℕ) {x : Option ℕ} → x ≡ Some n → Within room x → n ≤ room
-text_part room n e w = subst (Within room) e w
-
-pub part_length : (n : ℕ) (bytes : List ℕ) → n ≤ length bytes → n ≡ length (take n bytes)
-part_length n bytes h = omega (arith, length-take n bytes)

@@ -28,7 +28,7 @@ use Rattle.cards.proofs.Laws.{cards_count, header_refused, good_cards, settled_r
 use Rattle.cards.proofs.Walked.{Passed, passed, passed_leaders, stopped}
 use Rattle.prefix.specs.Prefix.{result_after, result_behind, prefix_of}
 use Rattle.prefix.specs.Claim.{Keeps}
-use Rattle.prefix.specs.Cut.{in_front, front_answers, front_sent_back, cut_answered, cut_sent_back}
+use Rattle.cards.proofs.Cut.{in_front, front_answers, front_sent_back, cut_answered, cut_sent_back}
 use Rattle.prefix.proofs.Kept.{keeps, all_cards, refused_first}
 
 -- cards that are sent back are so after any number of them
