@@ -1,2 +1,3 @@
 pub mod EditConditions
 pub mod EditClaim
+pub mod Examples
