@@ -8,7 +8,6 @@ ghost use Rattle.cards.specs.Register.{cards_from, settled, result_of, filled_wi
 use farthest::{Leader, Leaders};
 use header::Stored;
 use refusals::{Refusal, SentBack};
-use units::Miles;
 use walk::Answers;
 
 // The distance of a farthest card, 0 for none.
@@ -16,12 +15,7 @@ fn distance_in(leader: Option<Leader>) -> u16
     ensures { result ≡ distance_in leader }
 {
     match leader {
-        Some(
-            Leader {
-                distance: Miles(hundredths),
-                ..
-            },
-        ) => hundredths,
+        Some(lead) => dispersion::hundredths(lead.distance),
         None => 0,
     }
 }

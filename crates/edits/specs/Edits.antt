@@ -35,7 +35,7 @@ named (add card) = card_number card
 named (replace card) = card_number card
 named (withdraw n) = n
 
--- whether a card of that number has to be there, and not the other way round
+-- whether a card of that number has to be there; to add one, none may be
 abbrev pub takes : Edit → Bool
 takes (add card) = false
 takes (replace card) = true
