@@ -31,6 +31,8 @@ number_of refusal.SuppliedDuration = 18
 -- A9
 number_of refusal.Presence = 19
 number_of refusal.Capacity = 20
+-- A10
+number_of refusal.Day = 21
 
 -- "A refusal carries its number and the card's place"
 abbrev pub refused_at : {Place : Type 0} → Refusal → Place → SentBack Place

@@ -1,4 +1,4 @@
-// Why a register is sent back, a text of comma lines, or a question for a likely scenario, and at which place.
+// Why a register is sent back, an edit of one, a text of comma lines, or a question for a likely scenario or a day, and at which place.
 #![tactic(auto)]
 
 ghost use Rattle.std.specs.Prelude.{◌≡◌};
@@ -27,6 +27,7 @@ pub enum Refusal {
     SuppliedDuration = 18,
     Presence = 19,
     Capacity = 20,
+    Day = 21,
 }
 
 // A refusal and its place: a card's, counted from 0, or a line's, counted from 1.
