@@ -3,7 +3,7 @@
 use Rattle.std.specs.Prelude.{ℕ, ◌≡◌, refl, Bool, true, false, List, Option, Some, None, Result, Ok, Err}
 use Rattle.refusals.specs.declared.Refusal.{Refusal}
 use Rattle.units.specs.declared.Miles.{Miles}
-use Rattle.std.proofs.Common.{◌∙◌, sym, ap}
+use Rattle.std.proofs.Common.{sym, ap}
 use Rattle.search.specs.Laws.{clash}
 use Rattle.dispersion.specs.Tables.{reading_of}
 use Rattle.scenario.specs.declared.ToxicCard.{ToxicCard}
@@ -16,7 +16,6 @@ use Rattle.meaning.specs.declared.Meaning.{Meaning}
 use Rattle.meaning.specs.declared.Meaning.TheVariants as meaning
 use Rattle.meaning.specs.Reading.{meaning_of}
 use Rattle.card.specs.declared.Answer.{Answer}
-use Rattle.card.specs.declared.Stock.{Stock}
 use Rattle.card.specs.Stock.{stock_if, in_season, stock_of}
 use Rattle.card.specs.Answers.{read_toxic, planned_answer, answer_by, answer_for, answer_of}
 

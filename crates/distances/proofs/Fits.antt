@@ -22,13 +22,16 @@ use Rattle.scenario.specs.declared.Scenario.{Scenario}
 use Rattle.scenario.specs.Plan.{plan_of}
 use Rattle.fields.specs.declared.Fields.{Fields}
 use Rattle.fields.specs.Layout.{fields_of}
+use Rattle.seasons.specs.declared.Season.{Season}
+use Rattle.seasons.specs.Seasons.{season_of}
 use Rattle.meaning.specs.declared.Meaning.{Meaning}
 use Rattle.meaning.specs.declared.Meaning.TheVariants as meaning
 use Rattle.meaning.specs.Reading.{meaning_of}
 use Rattle.meaning.specs.Ranges.{ranged}
 use Rattle.meaning.specs.Inverse.{flammable_from}
 use Rattle.card.specs.declared.Answer.{Answer}
-use Rattle.card.specs.Answers.{read_toxic, planned_answer, answer_for, answer_of}
+use Rattle.card.specs.Answers.{read_toxic, planned_answer, answer_by, answer_of}
+use Rattle.card.specs.Number.{stocked}
 use Rattle.distances.specs.Limit.{Within, reach}
 
 -- ---- a table: no distance that is read is above its largest entry
@@ -110,24 +113,28 @@ ring_within cas pounds p = go (heat_of cas) (heat_within cas)
 
 -- ---- an answer
 
-toxic_within : (x : Option Miles) (number : ℕ) (s : Scenario) → ((d : Miles) → x ≡ Some d → d.0 ≤ mile_limit) → Within (read_toxic x number s)
-toxic_within (Some d) number s h = h d refl
-toxic_within None number s h = tt
+toxic_within : (x : Option Miles) (number : ℕ) (season : Season) (s : Scenario) → ((d : Miles) → x ≡ Some d → d.0 ≤ mile_limit) → Within (read_toxic x number season s)
+toxic_within (Some d) number season s h = h d refl
+toxic_within None number season s h = tt
 
-planned_within : (p : Option Scenario) (number : ℕ) (card : ToxicCard) → Within (planned_answer p number card)
-planned_within (Some s) number card = toxic_within _ number s (reading_within s.table card.topography s.rate.0 s.endpoint)
-planned_within None number card = tt
+planned_within : (p : Option Scenario) (number : ℕ) (season : Season) (card : ToxicCard) → Within (planned_answer p number season card)
+planned_within (Some s) number season card = toxic_within _ number season s (reading_within s.table card.topography s.rate.0 s.endpoint)
+planned_within None number season card = tt
 
-meaning_within : (f : Fields) (last : ℕ) (m : Result Meaning Refusal) (number : ℕ) → meaning_of f last ≡ m → Within (answer_for m number)
-meaning_within f last (Ok (meaning.Toxic card)) number e = planned_within (plan_of card) number card
-meaning_within f last (Ok (meaning.Flammable card)) number e =
+meaning_within : (f : Fields) (last : ℕ) (m : Meaning) (season : Season) (number : ℕ) → meaning_of f last ≡ Ok m → Within (answer_by m season number)
+meaning_within f last (meaning.Toxic card) season number e = planned_within (plan_of card) number season card
+meaning_within f last (meaning.Flammable card) season number e =
     ring_within card.cas card.quantity.0
     (omega (arith, (flammable_from f last e).quantity, (ranged f last (λ r q. clash (cc))).pounds))
-meaning_within f last (Err r) number e = tt
 
 pub answer_within : (card : List ℕ) (last : ℕ) → Within (answer_of card last)
-unfolding answer_of
-answer_within card last = meaning_within (fields_of card) last (meaning_of (fields_of card) last) (fields_of card).number refl
+answer_within card last = go (answer_of card last) refl
+  where
+    go : (x : Result Answer Refusal) → answer_of card last ≡ x → Within x
+    go (Ok a) e =
+        let s = stocked card last e in
+        subst Within s.answered (meaning_within (fields_of card) last s.meaning (season_of card) (fields_of card).number s.means)
+    go (Err r) e = tt
 
 -- "two 2-byte distances" have room for it
 pub distance_fits : (card : List ℕ) (last : ℕ) {a : Answer} → answer_of card last ≡ Ok a → a.distance.0 < 2 ^ 16

@@ -5,6 +5,7 @@ use Rattle.std.proofs.Common.{arith, add-zero, sym, ap, ◌∙◌}
 use Rattle.std.proofs.lemmas.List.Edits.{sets}
 use Rattle.buffer.specs.Numbers.{four_at, two_bytes, four_bytes, eight_bytes}
 use Rattle.buffer.proofs.Laws.{stands, two_in, four_in, eight_in, read_two, read_four, read_eight}
+use Rattle.seasons.specs.Seasons.{whole_year}
 use Rattle.card.specs.declared.Class.TheVariants as class
 use Rattle.card.specs.declared.Answer.{Answer}
 use Rattle.encode.specs.Bytes.{answer_bytes, AnswerAt}
@@ -45,6 +46,7 @@ pub printed :
       table = 8;
       rate = record { 0 = 10_220 };
       distance = record { 0 = 180 };
+      season = whole_year;
     })
     ≡ 0 ∷ 0 ∷ 0 ∷ 12 ∷ 2 ∷ 8 ∷ 0 ∷ 0 ∷ 0 ∷ 0 ∷ 0 ∷ 0 ∷ 39 ∷ 236 ∷ 0 ∷ 180 ∷ []
 unfolding two_bytes four_bytes eight_bytes answer_bytes

@@ -1,6 +1,6 @@
 -- The counterpart of a card, from the bytes, and the law on two cards: a counterpart never answers less.
 -- Assumes nothing.
-use Rattle.std.specs.Prelude.{ℕ, ◌≤◌, ◌≡◌, refl, List, ◌⊎◌, Option, Some, None, Result, Ok, Err}
+use Rattle.std.specs.Prelude.{ℕ, ◌≤◌, ◌≡◌, refl, List, ◌⊎◌, Option, Some, None, Ok}
 use Rattle.std.proofs.Common.{arith, ◌∙◌, sym, ap, inl, inr, ⊎_elim}
 use Rattle.std.proofs.lemmas.Bool.Decides.{nat_tests}
 use Rattle.search.specs.Laws.{clash}
@@ -16,7 +16,8 @@ use Rattle.fields.specs.declared.Fields.{Fields}
 use Rattle.buffer.specs.Numbers.{byte_at}
 use Rattle.fields.specs.Layout.{fields_of}
 use Rattle.meaning.specs.declared.FlammableCard.{FlammableCard}
-use Rattle.refusals.specs.declared.Refusal.{Refusal}
+use Rattle.seasons.specs.declared.Season.{Season}
+use Rattle.seasons.specs.Seasons.{season_of}
 use Rattle.meaning.specs.declared.Meaning.{Meaning}
 use Rattle.meaning.specs.declared.Meaning.TheVariants as meaning
 use Rattle.form.specs.Form.{state_of, ground_of, held_of}
@@ -26,7 +27,9 @@ use Rattle.meaning.specs.States.{same_entry, same_tenths}
 use Rattle.meaning.specs.Inverse.{ToxicFrom, FlammableFrom, toxic_from, flammable_from}
 use Rattle.card.specs.declared.Class.TheVariants as class
 use Rattle.card.specs.declared.Answer.{Answer}
-use Rattle.card.specs.Answers.{planned_answer, answer_for, answer_of}
+use Rattle.card.specs.Stock.{stock_of}
+use Rattle.card.specs.Answers.{planned_answer, answer_by, answer_of}
+use Rattle.card.specs.Number.{stocked}
 use Rattle.ordering.specs.Order.{kind_of, route_in, table_in, route_of, table_of, Counterpart}
 
 -- what a toxic answer was read from
@@ -38,11 +41,11 @@ record ToxicAnswer (card : ToxicCard) (a : Answer) : Type 0 where
   table : scenario.table ≡ a.table
   reading : reading_of scenario.table card.topography scenario.rate.0 scenario.endpoint ≡ Some a.distance
 
-toxic_answer : (card : ToxicCard) (p : Option Scenario) (n : ℕ) {a : Answer} → plan_of card ≡ p → planned_answer p n card ≡ Ok a → ToxicAnswer card a
-toxic_answer card (Some s) n {a} q e =
+toxic_answer : (card : ToxicCard) (p : Option Scenario) (n : ℕ) (season : Season) {a : Answer} → plan_of card ≡ p → planned_answer p n season card ≡ Ok a → ToxicAnswer card a
+toxic_answer card (Some s) n season {a} q e =
     let t : (a.class ≡ class.Toxic) × (s.route ≡ a.route) × (s.table ≡ a.table) × (reading_of s.table card.topography s.rate.0 s.endpoint ≡ Some a.distance) = grind (arith, e) in
     record { scenario = s; plan = q; class = t.0; route = t.1; table = t.2; reading = t.3 }
-toxic_answer card None n q e = clash (cc)
+toxic_answer card None n season q e = clash (cc)
 
 -- a card that is answered is a toxic or a flammable one
 record ToxicBytes (f : Fields) (a : Answer) : Type 0 where
@@ -56,20 +59,20 @@ record FlammableBytes (f : Fields) (a : Answer) : Type 0 where
   class : a.class ≡ class.Flammable
   distance : ring_of card.cas card.quantity.0 ≡ a.distance
 
-answered_from : (f : Fields) (last : ℕ) (m : Result Meaning Refusal) {a : Answer} → meaning_of f last ≡ m → answer_for m f.number ≡ Ok a → ToxicBytes f a ⊎ FlammableBytes f a
-answered_from f last (Ok (meaning.Toxic card)) p e =
-    inl (record { card = card; from = toxic_from f last p; answer = toxic_answer card (plan_of card) f.number refl e })
-answered_from f last (Ok (meaning.Flammable card)) p e =
+answered_from : (f : Fields) (last : ℕ) (m : Meaning) (season : Season) {a : Answer} → meaning_of f last ≡ Ok m → answer_by m season f.number ≡ Ok a → ToxicBytes f a ⊎ FlammableBytes f a
+answered_from f last (meaning.Toxic card) season p e =
+    inl (record { card = card; from = toxic_from f last p; answer = toxic_answer card (plan_of card) f.number season refl e })
+answered_from f last (meaning.Flammable card) season p e =
     inr (record { card = card; from = flammable_from f last p; class = grind (arith, e); distance = grind (arith, e) })
-answered_from f last (Err r) p e = clash (cc)
 
 from_bytes : (x : List ℕ) (last : ℕ) {a : Answer} → answer_of x last ≡ Ok a → ToxicBytes (fields_of x) a ⊎ FlammableBytes (fields_of x) a
-unfolding answer_of
-from_bytes x last e = answered_from (fields_of x) last (meaning_of (fields_of x) last) refl e
+from_bytes x last e =
+    let s = stocked x last e in
+    answered_from (fields_of x) last s.meaning (season_of x) s.means s.answered
 
 -- an answered card has the same answer as a first card: its number is above 0
 pub answer_first : (x : List ℕ) (last : ℕ) {a : Answer} → answer_of x last ≡ Ok a → answer_of x 0 ≡ Ok a
-unfolding answer_of meaning_of bad_number
+unfolding answer_of stock_of meaning_of bad_number
 answer_first x last e = grind (arith, nat_tests, e)
 
 pub route_is : (x : List ℕ) (last : ℕ) {a : Answer} → answer_of x last ≡ Ok a → route_of x ≡ a.route
