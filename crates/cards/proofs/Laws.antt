@@ -16,7 +16,7 @@ use Rattle.encode.specs.Bytes.{answer_bytes}
 use Rattle.encode.specs.Laws.{length_answer}
 use Rattle.header.specs.declared.Stored.{Stored}
 use Rattle.header.specs.Header.{count_of, cards_in, stored_in, header_of, Whole, Fitting}
-use Rattle.header.proofs.Cards.{cards_counted}
+use Rattle.header.proofs.Chunks.{cards_counted}
 use Rattle.header.proofs.Ends.{header_fitting}
 use Rattle.cards.specs.Distances.{wrong_for, unless, held_to}
 use Rattle.cards.specs.Register.{Cards, answers, sent_back, joined, then, cards_from, unless_wrong, settled, cards_of, result_of, after_header, outcome_of, bytes_of, filled_with, filled_after, buffer_of}

@@ -16,7 +16,7 @@ use Rattle.fields.specs.declared.Fields.{Fields}
 use Rattle.fields.specs.Layout.{fields_of}
 use Rattle.header.specs.declared.Layout.{Layout}
 use Rattle.header.specs.Header.{version_of, count_of, first_layout, layout_of, laid, layout_in, size_of as size_in, cards_in, Whole}
-use Rattle.header.proofs.Cards.{cards_counted}
+use Rattle.header.proofs.Chunks.{cards_counted}
 use Rattle.comma.specs.Text.{card_bytes, bytes_of, size_of, header_bytes, register_of}
 use Rattle.comma.proofs.StrictLaws.{Fitting, AllFitting}
 use Rattle.comma.specs.CardLaws.{AllBytes}

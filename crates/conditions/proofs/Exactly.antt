@@ -19,7 +19,7 @@ use Rattle.card.specs.Number.{answer_number}
 use Rattle.card.specs.Answers.{answer_of}
 use Rattle.farthest.specs.declared.Leaders.{Leaders}
 use Rattle.header.specs.Header.{header_of, count_of, cards_in, stored_in}
-use Rattle.header.proofs.Cards.{cards_counted}
+use Rattle.header.proofs.Chunks.{cards_counted}
 use Rattle.cards.specs.Register.{Cards, answers, sent_back, joined, then, cards_from, unless_wrong, settled, cards_of, result_of, after_header, outcome_of}
 use Rattle.ordering.specs.Claim.{card_at}
 use Rattle.conditions.specs.Conditions.{only, of_register, number_before, card_lines, wrong_distance, at_last, conditions_at}

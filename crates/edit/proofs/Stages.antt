@@ -18,7 +18,7 @@ use Rattle.buffer.specs.Puts.{Puts}
 use Rattle.buffer.proofs.Laws.{then, written_first}
 use Rattle.header.specs.declared.Stored.{Stored}
 use Rattle.header.specs.Header.{count_of, cards_in, stored_in, header_of, enough, Whole, Fitting, size_of}
-use Rattle.header.proofs.Cards.{cards_counted}
+use Rattle.header.proofs.Chunks.{cards_counted}
 use Rattle.header.proofs.Ends.{header_fitting}
 use Rattle.running.specs.declared.Running.{Running}
 use Rattle.cards.specs.Distances.{distances_of}

@@ -17,7 +17,7 @@ use Rattle.header.specs.Header.{version_of, stored_at, layout_in, size_of, cards
 use Rattle.cards.specs.Distances.{distance_in, distances_of, differ, wrong_for}
 use Rattle.cards.specs.Register.{Cards, answers, sent_back, cards_from, outcome_of}
 use Rattle.cards.proofs.Laws.{accepted_fits}
-use Rattle.header.proofs.Cards.{Sized}
+use Rattle.header.proofs.Chunks.{Sized}
 use Rattle.ordering.proofs.Found.{found}
 use Rattle.conditions.proofs.Afresh.{afresh}
 use Rattle.edits.specs.Edits.{Edit, add, replace, withdraw, named, takes, brings, edited, is_there, bad_presence, bad_capacity, edit_layout, register_of, laid, register_with, held, unless_bad, changed, after_old, register_by, register_after, length_of, left_by, buffer_after}

@@ -8,7 +8,7 @@ use Rattle.std.proofs.Common.{arith, le_refl, ◌∙◌, sym, ap, ap₂, subst, 
 use Rattle.std.proofs.lemmas.List.Elements.{All-append, All-get_or, All-from_get_or, Contains-append_left, Contains-append_right, Contains-append_cases}
 use Rattle.search.specs.Laws.{clash, lt_or_ge}
 use Rattle.header.specs.Header.{count_of, layout_in, cards_in, Whole}
-use Rattle.header.proofs.Cards.{chunks_count, chunk_at, Sized, first_bytes}
+use Rattle.header.proofs.Chunks.{chunks_count, chunk_at, Sized, first_bytes}
 use Rattle.edits.specs.Edits.{Edit, add, replace, withdraw, card_number, named, brings, keep_if, below, above, edited}
 
 -- ---- each card has its 24 bytes

@@ -1,40 +1,23 @@
--- What a header that is not refused says of the two lengths, and that the count it gives is the register's.
+-- What a header that is not refused says of its version and of the two lengths, and that the count it gives is the register's.
 -- Assumes nothing.
-use Rattle.std.specs.Prelude.{ℕ, ◌≡◌, refl, ◌*◌, ◌≤◌, Bool, true, false, eqb, length, List, Option, Some, None, Ok}
+use Rattle.std.specs.Prelude.{ℕ, ◌≡◌, refl, ◌*◌, ◌≤◌, Bool, true, false, length, List, Ok}
 use Rattle.std.proofs.Common.{arith, ◌∙◌, sym}
 use Rattle.search.specs.Laws.{clash}
 use Rattle.std.proofs.lemmas.Bool.Decides.{nat_tests}
 use Rattle.refusals.specs.declared.Refusal.TheVariants as refusal
-use Rattle.header.specs.declared.Layout.{Layout}
-use Rattle.header.specs.Header.{version_of, count_of, first_layout, second_layout, layout_of, laid, layout_in, size_of, bad_length, bad_version, bad_count, bad_buffer, unknown, header_if, header_of, Fitting}
-
--- a version that somebody gives has cards of 24 bytes
-card_size : (v : ℕ) → unknown (layout_of v) ≡ false → (laid (layout_of v)).card ≡ 24
-unfolding layout_of
-card_size v = go (eqb v 1) (eqb v 2)
-  where
-    versions : Bool → Bool → Option Layout
-    versions a b =
-        elim a [
-          | true ↦ Some first_layout
-          | false ↦ elim b [ true ↦ Some second_layout | false ↦ None ]
-        ]
-
-    go : (a b : Bool) → unknown (versions a b) ≡ false → (laid (versions a b)).card ≡ 24
-    go true b e = refl
-    go false true e = refl
-    go false false e = clash (cc)
+use Rattle.header.specs.Header.{count_of, layout_in, size_of, bad_length, bad_version, bad_count, bad_buffer, header_if, header_of, Fitting}
 
 -- what the checks of version, count and buffer leave
 pub header_fits : (bytes : List ℕ) (room n : ℕ) (v k : Bool) → v ≡ bad_version bytes → v ≡ false → k ≡ bad_count bytes → k ≡ false → n ≡ count_of bytes → 16 * n ≤ room → Fitting bytes room n
-unfolding bad_version bad_count layout_in
+unfolding bad_count
 header_fits bytes room n v k p vf q kf e roomy =
     let few : count_of bytes ≤ 2_000 = grind (arith, nat_tests, q, kf) in
     let long : length bytes ≡ size_of (layout_in bytes) (count_of bytes) = grind (arith, nat_tests, q, kf) in
     record {
+      version = sym p ∙ vf;
       cards = omega (arith, few, e);
       counted = e;
-      whole = record { register = long; card = card_size (version_of bytes) (sym p ∙ vf) };
+      whole = record { register = long };
       answers = roomy;
     }
 

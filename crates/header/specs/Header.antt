@@ -115,13 +115,13 @@ header_of bytes room =
     (header_if (bad_count bytes) refusal.Count
     (header_if (bad_buffer bytes room) refusal.Buffer (Ok (count_of bytes)))))
 
--- A register is as long as its version and its count say, and a card has the 24 bytes that the code takes for one.
+-- a register is as long as its version and its count say
 pub record Whole (bytes : List ℕ) : Type 0 where
   pub register : length bytes ≡ size_of (layout_in bytes) (count_of bytes)
-  pub card : (layout_in bytes).card ≡ 24
 
--- what a good header says of the two lengths
+-- what a good header says: a version that somebody gives, and the two lengths
 pub record Fitting (bytes : List ℕ) (room n : ℕ) : Type 0 where
+  pub version : bad_version bytes ≡ false
   pub cards : n ≤ 2_000
   pub counted : n ≡ count_of bytes
   pub whole : Whole bytes

@@ -3,8 +3,13 @@
 
 ghost use Rattle.std.specs.Prelude.{◌≡◌, ◌≤◌};
 ghost use Rattle.header.specs.Header.{layout_of, layout_in, stored_in, cards_in, bad_length, bad_version, bad_count, header_of, Whole, HeaderFits};
+ghost use Rattle.header.specs.InTurn.{in_turn};
 
 use refusals::Refusal;
+
+mod several;
+
+pub use several::Cards;
 
 // The most cards of a register.
 pub const MOST_CARDS: usize = 2_000;
@@ -58,7 +63,7 @@ pub fn layout_of(version: u8) -> Option<Layout>
 fn layout_in(register: &[u8]) -> Layout
     ensures value { result ≡ layout_in register.now }
     ensures header_bound { result.header ≤ 11 }
-    ensures card_bound { result.card ≤ 24 }
+    ensures card_bound { result.card ≤ 28 }
 {
     layout_of(buffer::byte(register, 4)).unwrap_or(Layout {
         header: 0,
@@ -112,14 +117,18 @@ pub fn header_of(register: &[u8], room: usize) -> Result<usize, Refusal>
     Ok(count)
 }
 
-// The cards of a register that is as long as its header says, each its 24 bytes.
-#[tactic(auto, using(crate::proofs::Cards::header_there, crate::proofs::Cards::cards_counted, crate::proofs::Cards::cards_cut_out))]
-pub fn cards_of(register: &[u8]) -> &[[u8; 24]]
+// The cards of a register that is as long as its header says, each of the bytes that its version gives it.
+#[tactic(auto, using(crate::proofs::Chunks::header_there, crate::proofs::Chunks::cards_whole, crate::proofs::Chunks::cards_cut_out), unfolding(crate::specs::InTurn::in_turn))]
+pub fn cards_of(register: &[u8]) -> Cards
     requires { Whole register.now }
-    ensures { result.now ≡ cards_in register.now }
+    ensures { in_turn result ≡ cards_in register.now }
 {
-    let (cards, _) = register[layout_in(register).header..].as_chunks::<24>();
-    cards
+    let layout = layout_in(register);
+    Cards {
+        bytes: &register[layout.header..],
+        size: layout.card,
+        count: buffer::two(register, 5) as usize,
+    }
 }
 
 // The distances that a register's header stores, where its version has them.

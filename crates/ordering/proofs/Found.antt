@@ -10,7 +10,7 @@ use Rattle.card.specs.Answers.{answer_of}
 use Rattle.farthest.specs.declared.Leaders.{Leaders}
 use Rattle.farthest.specs.Farthest.{At, leaders_of}
 use Rattle.header.specs.Header.{bad_buffer, header_of, count_of, stored_in, cards_in}
-use Rattle.header.proofs.Cards.{cards_counted}
+use Rattle.header.proofs.Chunks.{cards_counted}
 use Rattle.cards.specs.Distances.{wrong_for}
 use Rattle.cards.specs.Register.{Cards, answers, sent_back, then, cards_from, cards_of, result_of, after_header, outcome_of}
 use Rattle.cards.proofs.Laws.{joined_is, settled_is}

@@ -20,7 +20,7 @@ use Rattle.farthest.specs.Farthest.{At, Reaches, farthest_of, leaders_of}
 use Rattle.farthest.proofs.Laws.{reaches, leads, none_only, none_if}
 use Rattle.header.specs.declared.Stored.{Stored}
 use Rattle.header.specs.Header.{enough, header_of, count_of, stored_in, cards_in}
-use Rattle.header.proofs.Cards.{cards_counted}
+use Rattle.header.proofs.Chunks.{cards_counted}
 use Rattle.cards.specs.Register.{Cards, answers, sent_back, cards_from, settled, cards_of, result_of, after_header, outcome_of}
 use Rattle.cards.proofs.Laws.{cards_count, settled_is}
 use Rattle.ordering.specs.Claim.{card_at}

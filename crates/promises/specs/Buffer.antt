@@ -13,7 +13,7 @@ use Rattle.farthest.specs.Farthest.{At}
 use Rattle.encode.specs.Bytes.{answer_bytes}
 use Rattle.encode.specs.Laws.{length_answer}
 use Rattle.header.specs.Header.{header_of, count_of, cards_in}
-use Rattle.header.proofs.Cards.{cards_counted}
+use Rattle.header.proofs.Chunks.{cards_counted}
 use Rattle.cards.specs.Register.{Cards, answers, sent_back, cards_of, result_of, after_header, outcome_of, bytes_of, filled_with, filled_after, buffer_of}
 use Rattle.cards.proofs.Laws.{cards_count, bytes_length}
 use Rattle.ordering.specs.Claim.{card_at, Accepts}

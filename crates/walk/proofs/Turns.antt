@@ -38,13 +38,9 @@ module _ (cards : List (List ℕ)) (told : Answer → List ℕ) (most : ℕ) whe
   pub room : (at i : ℕ) (out out₀ : List ℕ) → i < length cards → at ≤ most * i → length out ≡ length out₀ → most * length cards ≤ length out₀ → at + most ≤ length out
   room at i out out₀ h k l m = omega (arith, mul-suc (most) i, mul-le-mul_left (most) h)
 
-  module _ (i : ℕ) (s : Running) (h : i < length cards) (x : Result (Running × Answer) (SentBack ℕ)) (e : x ≡ step_of s (get_or cards i [])) where
-    card : List ℕ
-    card = get_or cards i []
-
-    more : drop i cards ≡ card ∷ drop (i + 1) cards
-    unfolding card
-    more = rw (add-one i) (drop-cons cards i [] h)
+  module _ (i : ℕ) (s : Running) (h : i < length cards) (item : List ℕ) (there : item ≡ get_or cards i []) (x : Result (Running × Answer) (SentBack ℕ)) (e : x ≡ step_of s item) where
+    more : drop i cards ≡ item ∷ drop (i + 1) cards
+    more = rw (add-one i) (drop-cons cards i [] h ∙ ap (λ (card : List ℕ). card ∷ drop (suc i) cards) (sym there))
 
     -- what the walk comes to behind the card, and what it writes of the card and behind it
     abbrev Onward : ℕ → Running → Answer → Result (Running × ℕ) (SentBack ℕ)
@@ -54,18 +50,18 @@ module _ (cards : List (List ℕ)) (told : Answer → List ℕ) (most : ℕ) whe
     Written t a = told a ++ Unwritten (i + 1) t
 
     left_is : (at : ℕ) (y : Result (Running × Answer) (SentBack ℕ)) → x ≡ y → Left i s at ≡ go_on y (Onward at)
-    unfolding walk_from card
+    unfolding walk_from
     left_is at y q = ap (walk_from told s at) more ∙ ap (λ z. go_on z (Onward at)) (sym e ∙ q)
 
     unwritten_is : (y : Result (Running × Answer) (SentBack ℕ)) → x ≡ y → Unwritten i s ≡ write_on y Written
-    unfolding text_from card
+    unfolding text_from
     unwritten_is y q = ap (text_from told s) more ∙ ap (λ z. write_on z Written) (sym e ∙ q)
 
     -- a card that is answered: the walk goes on from the next place
     module _ (t : Running) (a : Answer) (q : x ≡ Ok (t, a)) where
       pub turn_place : (from : ℕ) → s.place ≡ from + i → t.place ≡ from + (i + 1)
       turn_place from k =
-          let z : t.place ≡ suc s.place = on_place s t a (get_or cards i []) (sym e ∙ q) in
+          let z : t.place ≡ suc s.place = on_place s t a item (sym e ∙ q) in
           omega (arith, z)
 
       pub turn_at : (at n : ℕ) → at ≤ most * i → n ≤ at + most → n ≤ most * (i + 1)

@@ -7,12 +7,14 @@ ghost use Rattle.std.proofs.lemmas.List.Edits.{sets};
 ghost use Rattle.buffer.specs.Puts.{Room, Puts};
 ghost use Rattle.card.specs.declared.Answer.{Answer};
 ghost use Rattle.encode.specs.Bytes.{answer_bytes};
+ghost use Rattle.header.specs.InTurn.{in_turn};
 ghost use Rattle.lines.specs.Lines.{card_line};
 ghost use Rattle.running.specs.Running.{before_cards};
 ghost use Rattle.walk.specs.Walk.{nothing_of, walk_from, text_from, Within};
 
 use buffer::Writer;
 use card::Answer;
+use header::Cards;
 use refusals::SentBack;
 use running::Running;
 
@@ -68,19 +70,19 @@ impl Writes for Lines {
 // The walk over these cards, from the running values on: the running values behind them, and how many bytes were written. It stops
 // at the first card that is refused.
 pub fn along<W: Writes>(
-    cards: &[[u8; 24]],
+    cards: Cards,
     from: Running,
     out: &mut [u8],
 ) -> Result<(Running, usize), SentBack<u32>>
-    requires { (from.place + length cards.now ≤ 2000) × (W.most * length cards.now ≤ length out.old) }
-    ensures value { result ≡ walk_from W.text from 0 cards.now }
-    ensures out_after { out.new ≡ sets out.old 0 (text_from W.text from cards.now) }
-    ensures within { Within (W.most * length cards.now) result }
+    requires { (from.place + length (in_turn cards) ≤ 2000) × (W.most * length (in_turn cards) ≤ length out.old) }
+    ensures value { result ≡ walk_from W.text from 0 (in_turn cards.entry) }
+    ensures out_after { out.new ≡ sets out.old 0 (text_from W.text from (in_turn cards.entry)) }
+    ensures within { Within (W.most * length (in_turn cards.entry)) result }
 {
     let mut running = from;
     let mut written = Writer { bytes: out, at: 0 };
-    for card in cards {
-        match running::step(running, card) {
+    for place in 0..cards.len() {
+        match running::step(running, cards.at(place)) {
             Ok((next, answer)) => {
                 W::put(&mut written, answer);
                 running = next;
@@ -93,14 +95,11 @@ pub fn along<W: Writes>(
 }
 
 // The walk through all cards of a register.
-pub fn through<W: Writes>(
-    cards: &[[u8; 24]],
-    out: &mut [u8],
-) -> Result<(Running, usize), SentBack<u32>>
-    requires { (length cards.now ≤ 2000) × (W.most * length cards.now ≤ length out.old) }
-    ensures value { result ≡ walk_from W.text before_cards 0 cards.now }
-    ensures out_after { out.new ≡ sets out.old 0 (text_from W.text before_cards cards.now) }
-    ensures within { Within (W.most * length cards.now) result }
+pub fn through<W: Writes>(cards: Cards, out: &mut [u8]) -> Result<(Running, usize), SentBack<u32>>
+    requires { (length (in_turn cards) ≤ 2000) × (W.most * length (in_turn cards) ≤ length out.old) }
+    ensures value { result ≡ walk_from W.text before_cards 0 (in_turn cards.entry) }
+    ensures out_after { out.new ≡ sets out.old 0 (text_from W.text before_cards (in_turn cards.entry)) }
+    ensures within { Within (W.most * length (in_turn cards.entry)) result }
 {
     along::<W>(cards, running::start(), out)
 }

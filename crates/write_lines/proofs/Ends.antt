@@ -6,7 +6,7 @@ use Rattle.refusals.specs.declared.SentBack.{SentBack}
 use Rattle.farthest.specs.declared.Leaders.{Leaders}
 use Rattle.fields.specs.Layout.{fields_of}
 use Rattle.header.specs.Header.{count_of, cards_in, enough, Whole, Fitting}
-use Rattle.header.proofs.Cards.{cards_counted}
+use Rattle.header.proofs.Chunks.{cards_counted}
 use Rattle.cards.specs.Register.{outcome_of}
 use Rattle.cards.proofs.Laws.{accepted_fits}
 use Rattle.comma.specs.Strict.{strict_lines}

@@ -5,13 +5,14 @@ use Prim.Native.Nat.{◌+◌, ◌≤◌, ◌*◌}
 use mathlib.Core.Path.{◌≡◌}
 use lib.ListN.{length}
 use lib.Seq.{sets}
+use Rattle.header.specs.InTurn.{in_turn}
 use Rattle.walk.proofs.Turns.{Left, Unwritten}
 use Rattle.walk.proofs.along.Given as goal
 
-abbrev pub invariant-loop-card : goal.invariant-loop-card
-invariant-loop-card g l =
+abbrev pub invariant-loop-place : goal.invariant-loop-place
+invariant-loop-place g l =
     let told = g.W.Writes.text in
     let most = g.W.Writes.most in
-    (l.written.bytes.ghost_name ≡ l.initial.written.bytes.ghost_name) × (l.running.place ≡ l.initial.running.place + l.card-index) × (l.written.at ≤ most * l.card-index) × (length l.written.bytes.now ≡ length l.initial.written.bytes.now)
-    × (Left l.cards told most l.card-index l.running l.written.at ≡ Left l.cards told most 0 l.initial.running 0)
-    × (sets l.written.bytes.now l.written.at (Unwritten l.cards told most l.card-index l.running) ≡ sets l.initial.written.bytes.now 0 (Unwritten l.cards told most 0 l.initial.running))
+    (l.written.bytes.ghost_name ≡ l.initial.written.bytes.ghost_name) × (l.running.place ≡ l.initial.running.place + l.place) × (l.written.at ≤ most * l.place) × (length l.written.bytes.now ≡ length l.initial.written.bytes.now)
+    × (Left (in_turn l.cards) told most l.place l.running l.written.at ≡ Left (in_turn l.cards) told most 0 l.initial.running 0)
+    × (sets l.written.bytes.now l.written.at (Unwritten (in_turn l.cards) told most l.place l.running) ≡ sets l.initial.written.bytes.now 0 (Unwritten (in_turn l.cards) told most 0 l.initial.running))
