@@ -46,13 +46,14 @@ pub fn bad_season(season: Season) -> bool
 
 // Whether a card of this season is in force on a day.
 #[tactic(auto, unfolding(crate::specs::Seasons::in_force))]
-pub fn in_force(season: Season, day: u16) -> bool
+pub fn in_force(season: Season, day: u32) -> bool
     ensures { result ≡ in_force season day }
 {
-    if season.last < season.first {
-        return season.first <= day || day <= season.last;
+    let (first, last) = (season.first as u32, season.last as u32);
+    if last < first {
+        return first <= day || day <= last;
     }
-    season.first <= day && day <= season.last
+    first <= day && day <= last
 }
 
 // The earliest day of the year on which a card of this season is in force: New Year's where it runs across it.
