@@ -2,11 +2,12 @@
 #![tactic(auto)]
 
 ghost use Rattle.std.specs.Prelude.{◌≡◌, ◌*◌, ◌≤◌, length};
+ghost use Rattle.header.specs.InTurn.{in_turn};
 ghost use Rattle.cards.specs.Distances.{distance_in, distances_of, wrong_for, held_to};
 ghost use Rattle.cards.specs.Register.{cards_from, settled, result_of, filled_with};
 
 use farthest::{Leader, Leaders};
-use header::Stored;
+use header::{Cards, Stored};
 use refusals::{Refusal, SentBack};
 use walk::Answers;
 
@@ -44,14 +45,14 @@ pub fn held_to(stored: Option<Stored>, leaders: Leaders) -> Result<Leaders, Sent
 // The cards are walked once, into a buffer that nobody but the caller sees, and what it holds is copied where no card was refused and
 // no wrong distance is stored: so everything is checked before a byte of the lent buffer is written.
 pub fn answer_through(
-    cards: &[[u8; 24]],
+    cards: Cards,
     stored: Option<Stored>,
     scratch: &mut [u8],
     answers: &mut [u8],
 ) -> Result<Leaders, SentBack<u32>>
-    requires { (length cards.now ≤ 2000) × (16 * length cards.now ≤ length scratch.old) × (16 * length cards.now ≤ length answers.old) }
-    ensures value { result ≡ result_of (settled stored (cards_from 0 0 cards.now)) }
-    ensures answers_after { answers.new ≡ filled_with (settled stored (cards_from 0 0 cards.now)) answers.old }
+    requires { (length (in_turn cards) ≤ 2000) × (16 * length (in_turn cards) ≤ length scratch.old) × (16 * length (in_turn cards) ≤ length answers.old) }
+    ensures value { result ≡ result_of (settled stored (cards_from 0 0 (in_turn cards.entry))) }
+    ensures answers_after { answers.new ≡ filled_with (settled stored (cards_from 0 0 (in_turn cards.entry))) answers.old }
 {
     let (running, size) = walk::through::<Answers>(cards, scratch)?;
     let leaders = held_to(stored, running.leaders)?;

@@ -8,10 +8,10 @@ use Prim.Native.Nat.{ℕ, min, ◌+◌, ◌≤◌, ◌<◌}
 use native.Mathlib.Omega.{arith}
 use Rattle.std.proofs.Common.{⊎_elim}
 use Rattle.std.proofs.lemmas.Bool.{cases_lt}
-use mathlib.Core.Path.{◌≡◌, ◌∙◌, refl, ap, sym, subst}
+use mathlib.Core.Path.{◌≡◌, ◌∙◌, refl, ap, ap₂, sym, subst}
 use mathlib.Core.List.{List, [], ◌∷◌, ◌++◌}
-use lib.ListN.{length, length-append}
-use lib.Seq.{take_at}
+use lib.ListN.{length, take, drop, length-append, take-append-drop}
+use lib.Seq.{take_at, length-take-le}
 use Rattle.search.specs.Laws.{clash}
 use Rattle.refusals.specs.declared.Refusal.{Refusal}
 use Rattle.card.specs.declared.Answer.{Answer}
@@ -44,7 +44,13 @@ unfolding running_after
 running_both s [] ys = refl
 running_both s (a ∷ xs) ys = running_both (after_card s a) xs ys
 
-module _ (cards front behind : List (List ℕ)) (s : Option Stored) (first : ℕ) (k : length front ≡ first) (both : cards ≡ front ++ behind) where
+module _ (cards front behind : List (List ℕ)) (s : Option Stored) (first : ℕ) (within : first ≤ length cards) (f : front ≡ take first cards) (b : behind ≡ drop first cards) where
+  k : length front ≡ first
+  k = ap length f ∙ length-take-le first cards within
+
+  both : cards ≡ front ++ behind
+  both = sym (ap₂ (λ (xs ys : List (List ℕ)). xs ++ ys) f b ∙ take-append-drop first cards)
+
   abbrev Told : Result Leaders (SentBack ℕ)
   Told = result_after first (settled s (cards_from 0 0 cards))
 

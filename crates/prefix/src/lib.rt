@@ -2,25 +2,23 @@
 #![tactic(auto)]
 
 ghost use Rattle.std.specs.Prelude.{◌≡◌, ◌≤◌, length};
+ghost use Rattle.header.specs.InTurn.{in_turn};
 ghost use Rattle.cards.specs.Register.{cards_from, settled};
 ghost use Rattle.prefix.specs.Prefix.{result_after, prefix_of};
 ghost use Rattle.prefix.specs.Claim.{Keeps};
 
 use cards::held_to;
 use farthest::Leaders;
-use header::Stored;
+use header::{Cards, Stored};
 use refusals::SentBack;
 use walk::Nothing;
 
 // The leaders of the first cards, from the running values of the one walk where it has passed them. It then goes on through the others,
 // and holds the stored distances to the leaders of them all, since a register is accepted as a whole or not at all.
-fn leaders_at(
-    cards: &[[u8; 24]],
-    stored: Option<Stored>,
-    first: usize,
-) -> Result<Leaders, SentBack<u32>>
-    requires { (first ≤ length cards.now) × (length cards.now ≤ 2000) }
-    ensures { result ≡ result_after first (settled stored (cards_from 0 0 cards.now)) }
+#[tactic(auto, using(header::proofs::Turns::counted))]
+fn leaders_at(cards: Cards, stored: Option<Stored>, first: usize) -> Result<Leaders, SentBack<u32>>
+    requires { (first ≤ length (in_turn cards)) × (length (in_turn cards) ≤ 2000) }
+    ensures { result ≡ result_after first (settled stored (cards_from 0 0 (in_turn cards.entry))) }
 {
     let (front, behind) = cards.split_at(first);
     let (running, _) = walk::through::<Nothing>(front, &mut [])?;

@@ -2,22 +2,23 @@
 #![tactic(auto)]
 
 ghost use Rattle.std.specs.Prelude.{◌≡◌, ◌*◌, ◌≤◌, length};
+ghost use Rattle.header.specs.InTurn.{in_turn};
 ghost use Rattle.cards.specs.Register.{cards_from, settled, result_of, filled_with, outcome_of, buffer_of};
 
 use farthest::Leaders;
-use header::Stored;
+use header::{Cards, Stored};
 use refusals::SentBack;
 use walk::Nothing;
 
 // The answers of a register's cards, by way of a buffer of this length.
 fn answer_by<const ROOM: usize>(
-    cards: &[[u8; 24]],
+    cards: Cards,
     stored: Option<Stored>,
     answers: &mut [u8],
 ) -> Result<Leaders, SentBack<u32>>
-    requires { (16 * length cards.now ≤ ROOM) × (ROOM ≤ 32_000) × (length cards.now ≤ 2000) × (16 * length cards.now ≤ length answers.old) }
-    ensures value { result ≡ result_of (settled stored (cards_from 0 0 cards.now)) }
-    ensures answers_after { answers.new ≡ filled_with (settled stored (cards_from 0 0 cards.now)) answers.old }
+    requires { (16 * length (in_turn cards) ≤ ROOM) × (ROOM ≤ 32_000) × (length (in_turn cards) ≤ 2000) × (16 * length (in_turn cards) ≤ length answers.old) }
+    ensures value { result ≡ result_of (settled stored (cards_from 0 0 (in_turn cards.entry))) }
+    ensures answers_after { answers.new ≡ filled_with (settled stored (cards_from 0 0 (in_turn cards.entry))) answers.old }
 {
     let mut scratch = [0u8; ROOM];
     cards::answer_through(cards, stored, &mut scratch, answers)
@@ -26,13 +27,13 @@ fn answer_by<const ROOM: usize>(
 // A short register has a short buffer: to clear the long one, with room for as many cards as a register may have, costs about as
 // much as four cards.
 fn answer_all(
-    cards: &[[u8; 24]],
+    cards: Cards,
     stored: Option<Stored>,
     answers: &mut [u8],
 ) -> Result<Leaders, SentBack<u32>>
-    requires { (length cards.now ≤ 2000) × (16 * length cards.now ≤ length answers.old) }
-    ensures value { result ≡ result_of (settled stored (cards_from 0 0 cards.now)) }
-    ensures answers_after { answers.new ≡ filled_with (settled stored (cards_from 0 0 cards.now)) answers.old }
+    requires { (length (in_turn cards) ≤ 2000) × (16 * length (in_turn cards) ≤ length answers.old) }
+    ensures value { result ≡ result_of (settled stored (cards_from 0 0 (in_turn cards.entry))) }
+    ensures answers_after { answers.new ≡ filled_with (settled stored (cards_from 0 0 (in_turn cards.entry))) answers.old }
 {
     if cards.len() <= 1 {
         return answer_by::<16>(cards, stored, answers);
@@ -57,9 +58,9 @@ pub fn fill(register: &[u8], answers: &mut [u8]) -> Result<Leaders, SentBack<u32
 }
 
 // The walk that only asks writes nothing.
-fn ask(cards: &[[u8; 24]], stored: Option<Stored>) -> Result<Leaders, SentBack<u32>>
-    requires { length cards.now ≤ 2000 }
-    ensures { result ≡ result_of (settled stored (cards_from 0 0 cards.now)) }
+fn ask(cards: Cards, stored: Option<Stored>) -> Result<Leaders, SentBack<u32>>
+    requires { length (in_turn cards) ≤ 2000 }
+    ensures { result ≡ result_of (settled stored (cards_from 0 0 (in_turn cards.entry))) }
 {
     let (running, _) = walk::through::<Nothing>(cards, &mut [])?;
     cards::held_to(stored, running.leaders)

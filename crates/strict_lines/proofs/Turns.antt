@@ -58,21 +58,24 @@ module _ (cards : List (List ℕ)) where
   all_passed = ap (λ (xs : List (List ℕ)). strict_lines (map fields_of xs)) (take_all (length cards) cards (omega arith))
 
 -- the line of the next card stands in the scratch line
-module _ (cards : List (List ℕ)) (i : ℕ) (h : i < length cards) (line after : List ℕ) (size : ℕ) (w : Wrote line after 0 size (line_of (get_or cards i []))) where
+module _ (cards : List (List ℕ)) (i : ℕ) (h : i < length cards) (item : List ℕ) (there : item ≡ get_or cards i []) (line after : List ℕ) (size : ℕ) (w : Wrote line after 0 size (line_of item)) where
+  line_there : line_of (get_or cards i []) ≡ line_of item
+  line_there = ap line_of (sym there)
+
   more : length (lines_to (i + 1) cards) ≡ length (lines_to i cards) + size
-  more = rw (lines_more i cards h, length-append) (omega (arith, w.place))
+  more = rw (lines_more i cards h, length-append) (omega (arith, w.place, ap length line_there))
 
   pub size_turn : (so_far : ℕ) → so_far ≡ length (lines_to i cards) → so_far + size ≡ length (lines_to (i + 1) cards)
   size_turn so_far e = omega (arith, more)
 
   module _ (short : size ≤ 256) (roomy : 256 ≤ length line) where
     line_is : take size after ≡ line_of (get_or cards i [])
-    line_is = (written_whole w (omega arith)).0
+    line_is = (written_whole w (omega arith)).0 ∙ sym line_there
 
     module _ (before out : List ℕ) (at : ℕ) (so_far : Wrote before out 0 at (lines_to i cards)) where
       -- it has room where the whole text has
       pub line_fits : length (strict_lines (map fields_of cards)) ≤ length before → length out ≡ length before → at + length (take size after) ≤ length out
-      line_fits room kept = omega (arith, lines_within (i + 1) cards, so_far.place, more, w.place, ap length line_is)
+      line_fits room kept = omega (arith, lines_within (i + 1) cards, so_far.place, more, w.place, ap length line_is, ap length line_there)
 
       pub put_turn : (written : List ℕ) (next : ℕ) → Wrote out written at next (take size after) → Wrote before written 0 next (lines_to (i + 1) cards)
       put_turn written next copied =

@@ -5,9 +5,11 @@ ghost use Rattle.std.specs.Prelude.{◌≡◌, ◌≤◌, [], ◌∷◌, ◌++�
 ghost use Rattle.std.proofs.lemmas.List.Edits.{sets};
 ghost use Rattle.buffer.specs.Wrote.{Wrote};
 ghost use Rattle.fields.specs.Layout.{fields_of};
+ghost use Rattle.header.specs.InTurn.{in_turn};
 ghost use Rattle.comma.specs.Strict.{strict_line, strict_lines};
 
 use buffer::Writer;
+use header::Cards;
 
 // The line of a card, at the start of a buffer of the writer's own; how long it is.
 fn line_of(card: &[u8], line: &mut [u8]) -> usize
@@ -21,25 +23,25 @@ fn line_of(card: &[u8], line: &mut [u8]) -> usize
 }
 
 // How long the text is.
-pub fn text_size(cards: &[[u8; 24]], line: &mut [u8]) -> usize
-    requires { (length cards.now ≤ 2000) × (256 ≤ length line.old) }
-    ensures { result ≡ length (strict_lines (map fields_of cards.now)) }
+pub fn text_size(cards: Cards, line: &mut [u8]) -> usize
+    requires { (length (in_turn cards) ≤ 2000) × (256 ≤ length line.old) }
+    ensures { result ≡ length (strict_lines (map fields_of (in_turn cards.entry))) }
 {
     let mut size = 0usize;
-    for card in cards {
-        size += line_of(card, line);
+    for place in 0..cards.len() {
+        size += line_of(cards.at(place), line);
     }
     size
 }
 
 // The lines one behind the other, where there is room for all.
-pub fn put_lines(cards: &[[u8; 24]], line: &mut [u8], out: &mut [u8])
-    requires { (length cards.now ≤ 2000) × (256 ≤ length line.old) × (length (strict_lines (map fields_of cards.now)) ≤ length out.old) }
-    ensures { out.new ≡ sets out.old 0 (strict_lines (map fields_of cards.now)) }
+pub fn put_lines(cards: Cards, line: &mut [u8], out: &mut [u8])
+    requires { (length (in_turn cards) ≤ 2000) × (256 ≤ length line.old) × (length (strict_lines (map fields_of (in_turn cards))) ≤ length out.old) }
+    ensures { out.new ≡ sets out.old 0 (strict_lines (map fields_of (in_turn cards.entry))) }
 {
     let mut written = Writer { bytes: out, at: 0 };
-    for card in cards {
-        let size = line_of(card, line);
+    for place in 0..cards.len() {
+        let size = line_of(cards.at(place), line);
         buffer::put_text(&mut written, &line[..size]);
     }
 }

@@ -4,19 +4,21 @@
 
 ghost use Rattle.std.specs.Prelude.{◌≡◌, ◌≤◌, map, length};
 ghost use Rattle.fields.specs.Layout.{fields_of};
+ghost use Rattle.header.specs.InTurn.{in_turn};
 ghost use Rattle.comma.specs.Strict.{strict_lines};
 ghost use Rattle.write_lines.specs.Writing.{writable, answer_as, written_as, writing_of, write_into};
 ghost use Rattle.write_lines.specs.Accepted.{accepted};
 
 use farthest::Leaders;
+use header::Cards;
 use refusals::{Refusal, SentBack};
 
 // The text of an accepted register's cards, or 13.
 #[tactic(auto, using(buffer::proofs::Laws::written_first))]
-fn write_cards(cards: &[[u8; 24]], out: &mut [u8]) -> Result<usize, SentBack<usize>>
-    requires { length cards.now ≤ 2000 }
-    ensures value { result ≡ answer_as accepted (strict_lines (map fields_of cards.now)) (length out.old) }
-    ensures out_after { out.new ≡ written_as accepted (strict_lines (map fields_of cards.now)) out.old }
+fn write_cards(cards: Cards, out: &mut [u8]) -> Result<usize, SentBack<usize>>
+    requires { length (in_turn cards) ≤ 2000 }
+    ensures value { result ≡ answer_as accepted (strict_lines (map fields_of (in_turn cards.entry))) (length out.old) }
+    ensures out_after { out.new ≡ written_as accepted (strict_lines (map fields_of (in_turn cards.entry))) out.old }
 {
     let mut line = [0u8; 256];
     let size = strict_lines::text_size(cards, &mut line);

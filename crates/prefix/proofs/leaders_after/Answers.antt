@@ -18,4 +18,9 @@ pub leaders_at-requires : goal.leaders_at-requires
 leaders_at-requires c = let q = c.in_ok-header_of.was {u = tt} in search (good, q, rules)
 
 pub returns : goal.returns
-returns c = let q = c.in_ok-header_of.was {u = tt} in search (fewer_cards, kept, q, rules)
+returns c =
+    let q = c.in_ok-header_of.was {u = tt} in
+    let z = fewer_cards _ c.args.k _ c.header_of.ensures.value _ _ q _ c.cards_of-cards.ensures _ c.stored_of.ensures _ (search rules) c.leaders_at.ensures in record {
+      value = z;
+      keeps = kept _ _ _ z;
+    }

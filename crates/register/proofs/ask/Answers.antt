@@ -5,7 +5,9 @@ use borrow.Author.Rules.{rules}
 use Rattle.register.proofs.ask.Goals as goal
 
 pub returns-in_err-running : goal.returns-in_err-running
-returns-in_err-running c = let q = c.in_err-running.was {u = tt} in search (refused_result, q, rules)
+returns-in_err-running c =
+    let q = c.in_err-running.was {u = tt} in
+    let z = refused_result _ c.args.stored _ _ c.through.ensures.value _ q in search (z, rules)
 
 pub returns : goal.returns
 returns c = let q = c.in_ok-running.was {u = tt} in search (held_result, q, rules)
