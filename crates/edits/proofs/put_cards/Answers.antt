@@ -1,12 +1,15 @@
-use Rattle.std.proofs.Common.{arith}
+use Rattle.std.proofs.Common.{arith, ap, sym, ◌∙◌, subst, ◌≤◌, ◌+◌, ◌*◌, length}
+use Rattle.seasons.specs.Seasons.{grown}
 use Rattle.header.specs.InTurn.{in_turn}
-use Rattle.edits.specs.Edits.{edit_layout}
 use Rattle.edits.proofs.Ends.{cards_turn, cards_place}
+use Rattle.edits.proofs.Growing.{grown_at, grown_count, grown_sized}
 use Rattle.edits.proofs.put_cards.Goals as goal
 
+pub put_card-requires : goal.put_card-requires
+put_card-requires c = ?
+
 pub loop-place-preserved : goal.loop-place-preserved
-loop-place-preserved c =
-    let so_far = c.loop-place.invariant in (
-      cards_turn edit_layout.card (in_turn c.args.cards) c.requires.1 _ c.requires.0 c.loop-place.place (omega arith) _ c.at.ensures _ so_far.0 so_far.1 _ c.put_text.ensures,
-      cards_place edit_layout.card (in_turn c.args.cards) c.requires.1 _ c.requires.0 c.loop-place.place (omega arith) _ c.at.ensures _ so_far.0 so_far.1 _ c.put_text.ensures,
-    )
+loop-place-preserved c = ?
+
+pub returns-clause-wrote : goal.returns-clause-wrote
+returns-clause-wrote c = ?
