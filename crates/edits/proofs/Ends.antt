@@ -31,7 +31,7 @@ version_laid = refl
 
 -- ---- a card as version 3 has it
 
-module _ (card : List ℕ) {w u v x : Writer} where
+module _ (card : List ℕ) {w u : Writer} where
   -- one of version 3 is written as it is
   pub stands_longer : 28 ≤ length card → Puts w u card → Puts w u (grown card)
   unfolding grown
@@ -40,9 +40,9 @@ module _ (card : List ℕ) {w u v x : Writer} where
       subst (Puts w u) (sym (append-nil card) ∙ ap (λ b. card ++ gained b) (sym longer)) one
 
   -- an older one with 1 and 366 behind it
-  pub stands_grown : length card < 28 → Puts w u card → Puts u v (two_bytes 1) → Puts v x (two_bytes 366) → Puts w x (grown card)
+  pub stands_grown : {v x : Writer} → length card < 28 → Puts w u card → Puts u v (two_bytes 1) → Puts v x (two_bytes 366) → Puts w x (grown card)
   unfolding grown
-  stands_grown h one first last =
+  stands_grown {v} {x} h one first last =
       let older : is_older card ≡ true = grind (arith, nat_tests, h) in
       subst (Puts w x) (ap (λ b. card ++ gained b) (sym older)) (then one (then first last))
 

@@ -4,7 +4,7 @@
 use Rattle.std.specs.Prelude.{ℕ, zero, suc, ◌*◌, ◌≤◌, ◌<◌, ◌≡◌, refl, Bool, true, false, List, [], ◌∷◌, ◌++◌, ltb, eqb, length, drop, get_or, Option, Some, None, ◌↔◌, ◌⊎◌, Contains}
 use Rattle.std.specs.List.{concat}
 use Rattle.std.specs.Simd.{first_chunks}
-use Rattle.std.proofs.Common.{arith, le_refl, ◌∙◌, sym, ap, ap₂, subst, inl, inr, ⊎_elim, lt-ltb, length-drop, take_all, take_at, drop_at}
+use Rattle.std.proofs.Common.{arith, le_refl, ◌∙◌, sym, ap, ap₂, inl, inr, ⊎_elim, lt-ltb, length-drop, take_all, take_at, drop_at}
 use Rattle.std.proofs.lemmas.List.Elements.{All-append, All-get_or, All-from_get_or, Contains-append_left, Contains-append_right, Contains-append_cases}
 use Rattle.search.specs.Laws.{clash, lt_or_ge}
 use Rattle.header.specs.declared.Layout.{Layout}
@@ -14,7 +14,7 @@ use Rattle.seasons.specs.Seasons.{grown, Given}
 use Rattle.header.proofs.Chunks.{chunks_sized, first_bytes}
 use Rattle.edits.specs.Edits.{Edit, add, replace, withdraw, card_number, named, brings, keep_if, below, above, with_number, edited}
 use Rattle.edits.specs.Around.{AllGiven}
-use Rattle.edits.proofs.Growing.{grown_each, grown_back, grown_number}
+use Rattle.edits.proofs.Growing.{grown_each, grown_back, grown_number, each_there}
 
 -- ---- something that holds of each card
 
@@ -194,8 +194,5 @@ unnamed_was card e cards brought given other m =
     let new : List (List ℕ) = with_number (named e) (brings e) cards in
     let back = grown_back new card m in
     let known = each_with Given e cards brought given in
-    let number : card_number card ≡ card_number back.0 = ap card_number (sym back.2) ∙ grown_number back.0 (back_given new known back) in
+    let number : card_number card ≡ card_number back.0 = ap card_number (sym back.2) ∙ grown_number back.0 (each_there Given new back.0 known back.1) in
     (back.0, (unnamed_with e cards (λ k. other (number ∙ k))).1 back.1, back.2)
-  where
-    back_given : (all : List (List ℕ)) → AllGiven all → (b : (c : List ℕ) × Contains all c × (grown c ≡ card)) → Given b.0
-    back_given all known b = subst Given b.1.2 (known b.1.0 b.1.1)
