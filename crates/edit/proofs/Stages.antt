@@ -18,6 +18,7 @@ use Rattle.buffer.specs.Puts.{Puts}
 use Rattle.buffer.proofs.Laws.{then, written_first}
 use Rattle.header.specs.declared.Stored.{Stored}
 use Rattle.header.specs.Header.{count_of, cards_in, stored_in, header_of, enough, Whole, Fitting, size_of}
+use Rattle.header.specs.InTurn.{Sized}
 use Rattle.header.proofs.Chunks.{cards_counted}
 use Rattle.header.proofs.Ends.{header_fitting}
 use Rattle.running.specs.declared.Running.{Running}
@@ -27,6 +28,7 @@ use Rattle.cards.proofs.Laws.{header_refused, header_good, good_header, good_cou
 use Rattle.edits.specs.Edits.{below, above, is_there, with_number, bad_presence, bad_capacity, header_bytes, register_of, laid, register_with, held, unless_bad, changed, after_old, register_by, length_of, left_by, edit_layout}
 use Rattle.edits.specs.Around.{AllPass, Brings}
 use Rattle.edits.proofs.Cut.{there_is}
+use Rattle.edits.proofs.Lists.{sized_front, sized_behind, cards_sized}
 use Rattle.edit_walk.specs.Parts.{merged, part_of, Accepted, Walked}
 use Rattle.edit_walk.proofs.Parts.{middle_place, middle_stops, all_on}
 use Rattle.edit_walk.proofs.Behind.{behind_any}
@@ -106,17 +108,17 @@ module _ (front brought behind : List (List ℕ)) (t : Running) (l : Leaders) (k
 
 -- the header and three lists of cards, one behind the other
 module _ (front brought behind : List (List ℕ)) (l : Leaders) (q : result_of (cards_from 0 0 (front ++ (brought ++ behind))) ≡ Ok l) (d : Stored) (k : d ≡ distances_of l) {w₀ w₁ w₂ w₃ w₄ : Writer} (start : w₀.at ≡ 0)
-    (header : Puts w₀ w₁ (header_bytes (length front + (length brought + length behind)) d)) (first : Puts w₁ w₂ (concat front)) (second : Puts w₂ w₃ (concat brought)) (third : Puts w₃ w₄ (concat behind)) where
+    (count : ℕ) (n : count ≡ length front + (length brought + length behind)) (header : Puts w₀ w₁ (header_bytes count d)) (first : Puts w₁ w₂ (concat front)) (second : Puts w₂ w₃ (concat brought)) (third : Puts w₃ w₄ (concat behind)) where
   abbrev all : List (List ℕ)
   all = front ++ (brought ++ behind)
 
   cards_text : concat front ++ (concat brought ++ concat behind) ≡ concat all
   cards_text = sym (concat-append front (brought ++ behind) ∙ ap (λ text. concat front ++ text) (concat-append brought behind))
 
-  counted : length front + (length brought + length behind) ≡ length all
-  counted = omega (arith, length-append front (brought ++ behind), length-append brought behind)
+  counted : count ≡ length all
+  counted = omega (arith, n, length-append front (brought ++ behind), length-append brought behind)
 
-  text_is : header_bytes (length front + (length brought + length behind)) d ++ (concat front ++ (concat brought ++ concat behind)) ≡ register_of all l
+  text_is : header_bytes count d ++ (concat front ++ (concat brought ++ concat behind)) ≡ register_of all l
   unfolding register_of
   text_is = ap₂ (λ n s. header_bytes n s ++ (concat front ++ (concat brought ++ concat behind))) counted k ∙ ap (λ text. header_bytes (length all) (distances_of l) ++ text) cards_text
 
@@ -143,6 +145,12 @@ module _ (front brought behind : List (List ℕ)) (l : Leaders) (q : result_of (
       )
 
 -- ---- 19 and 20
+
+-- they are looked for by how many cards there are
+pub counted_way : (wanted : Bool) (room : ℕ) (front brought behind cards : List (List ℕ)) (x : Result Unit (SentBack ℕ)) {kept all count : ℕ} → kept ≡ length front + length behind → all ≡ length cards → count ≡ length front + (length brought + length behind)
+    → x ≡ way_of (bad_presence wanted (ltb kept all)) (bad_capacity room count) → x ≡ way_of (bad_presence wanted (ltb (length front + length behind) (length cards))) (bad_capacity room (length front + (length brought + length behind)))
+counted_way wanted room front brought behind cards x k a c e =
+    e ∙ ap₂ way_of (ap₂ (λ m n. bad_presence wanted (ltb m n)) k a) (ap (bad_capacity room) c)
 
 abbrev after_way : Result Unit (SentBack ℕ) → Result (List ℕ) (SentBack ℕ) → Result (List ℕ) (SentBack ℕ)
 after_way (Ok u) further = further
@@ -173,6 +181,17 @@ module _ (n : ℕ) (wanted : Bool) (brought cards : List (List ℕ)) (room : ℕ
       go false false h = refl
 
 -- ---- the cards around the number
+
+-- each part of them has cards of their size
+module _ (size : ℕ) (front named behind cards : List (List ℕ)) (a : front ++ (named ++ behind) ≡ cards) (s : Sized size cards) where
+  parts : Sized size (front ++ (named ++ behind))
+  parts = subst (Sized size) (sym a) s
+
+  pub front_sized : Sized size front
+  front_sized = sized_front size front (named ++ behind) parts
+
+  pub behind_sized : Sized size behind
+  behind_sized = sized_behind size named behind (sized_behind size front (named ++ behind) parts)
 
 module _ (s : Option Stored) (n : ℕ) (wanted : Bool) (brought cards : List (List ℕ)) (room : ℕ) (front named behind : List (List ℕ)) (a : front ++ (named ++ behind) ≡ cards) where
   outcome : result_of (settled s (cards_from 0 0 (front ++ (named ++ behind)))) ≡ result_of (settled s (cards_from 0 0 cards))
@@ -232,6 +251,9 @@ module _ (n : ℕ) (wanted : Bool) (brought : List (List ℕ)) (buffer : List �
     held_whole = good_header register enough (header_of register enough) refl (count_of register) good
 
     module _ (cards : List (List ℕ)) (c : cards ≡ cards_in register) where
+      pub held_sized : Sized edit_layout.card cards
+      held_sized = subst (Sized edit_layout.card) (sym c) (cards_sized register (header_fitting register enough (count_of register) good))
+
       pub held_few : length cards ≤ 2_000
       held_few = good_count register enough (header_of register enough) refl (count_of register) good cards c
 
