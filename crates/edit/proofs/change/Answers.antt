@@ -2,8 +2,7 @@
 -- Assumes nothing.
 use Rattle.std.proofs.Common.{rules, arith}
 use Rattle.header.specs.InTurn.{in_turn}
-use Rattle.edits.specs.Edits.{edit_layout}
-use Rattle.edit.proofs.Stages.{counted_way, front_sized, behind_sized, sent_length, sent_laid, way_sent, few, known, way_length, way_laid}
+use Rattle.edit.proofs.Stages.{counted_way, front_given, behind_given, sent_length, sent_laid, way_sent, few, known, way_length, way_laid}
 use Rattle.edit.proofs.change.Goals as goal
 
 pub returns-in_err-in_the_way-clause-value : goal.returns-in_err-in_the_way-clause-value
@@ -43,9 +42,9 @@ returns-clause-laid c =
     let q = c.in_ok-before.was {u = tt} in
     let r = c.in_ok-in_the_way.was {u = tt} in way_laid c.args.stored c.args.number c.args.wanted (in_turn c.args.brought) (in_turn c.args.cards) c.args.room (in_turn c.around.result.0) (in_turn c.around.result.1) (in_turn c.around.result.2) c.around.ensures.all c.around.ensures.low c.around.ensures.high c.walk_around.result c.walk_around.ensures _ _ q c.in_the_way.result e r _ c.lay.ensures.laid
 
-pub lay-requires-clause-sized : goal.lay-requires-clause-sized
-lay-requires-clause-sized c = (
-  front_sized edit_layout.card (in_turn c.around.result.0) (in_turn c.around.result.1) (in_turn c.around.result.2) (in_turn c.args.cards) c.around.ensures.all c.requires.3,
+pub lay-requires-clause-given : goal.lay-requires-clause-given
+lay-requires-clause-given c = (
+  front_given (in_turn c.around.result.0) (in_turn c.around.result.1) (in_turn c.around.result.2) (in_turn c.args.cards) c.around.ensures.all c.requires.3,
   c.requires.4,
-  behind_sized edit_layout.card (in_turn c.around.result.0) (in_turn c.around.result.1) (in_turn c.around.result.2) (in_turn c.args.cards) c.around.ensures.all c.requires.3,
+  behind_given (in_turn c.around.result.0) (in_turn c.around.result.1) (in_turn c.around.result.2) (in_turn c.args.cards) c.around.ensures.all c.requires.3,
 )

@@ -24,4 +24,4 @@ pub edit_by-requires-2 : goal.edit_by-requires-2
 edit_by-requires-2 c =
     let q = c.in_ok-count.was {u = tt} in
     let m = count_most c.args.buffer.now c.held.result.now c.held.ensures c.header_of.result c.header_of.ensures.value _ q in
-    let z = ready c.args.buffer.now c.held.result.now c.held.ensures c.header_of.result c.header_of.ensures.value _ q 48_035 (omega (arith, m)) in search (z, rules)
+    let z = ready c.args.buffer.now c.held.result.now c.held.ensures c.header_of.result c.header_of.ensures.value _ q 56_039 (omega (arith, m)) in search (z, rules)
