@@ -15,6 +15,14 @@ pub struct Season {
     pub last: u16,
 }
 
+/// The last day and the first, together and each alone.
+const AT_NEW_YEAR: [Season; 4] = [
+    Season { first: LAST_DAY, last: 1 },
+    Season { first: LAST_DAY, last: 1 },
+    Season { first: LAST_DAY, last: LAST_DAY },
+    Season { first: 1, last: 1 },
+];
+
 /// What older cards are in force for.
 pub const WHOLE_YEAR: Season = Season { first: 1, last: LAST_DAY };
 
@@ -46,7 +54,7 @@ pub fn any_season(rng: &mut Rng) -> Season {
         1 => WHOLE_YEAR,
         // Every day, from another day on.
         2 => Season { first: one, last: if one == 1 { LAST_DAY } else { one - 1 } },
-        3 => Season { first: LAST_DAY, last: 1 },
+        3 => *rng.pick(&AT_NEW_YEAR),
         4 | 5 => Season { first: late, last: early },
         // Two neighbours, or a week.
         6 => Season { first: one.min(LAST_DAY - 1), last: one.min(LAST_DAY - 1) + 1 },
