@@ -181,7 +181,7 @@ uint64_t rings_day(const uint8_t *register_ptr, size_t register_len,
  * Returns 0 if the register is accepted. A refusal is the one that rings_answer gives for the register, but never
  * RINGS_BUFFER: its number x 2^32 + the card's place, counted from 0. It changes none of the four words.
  *
- * For pointers, overlaps and threads the rules of rings_answer hold.
+ * For pointers, overlaps and threads the rules of rings_answer hold, of all four words.
  */
 uint64_t rings_year(const uint8_t *register_ptr, size_t register_len,
                     uint64_t *toxic, uint64_t *flammable,

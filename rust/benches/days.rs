@@ -1,9 +1,9 @@
 //! The rings of a day and of a year: the proved library and the reference, timed on the same registers in the same process,
 //! beside the proved library's answering of the whole register.
 //!
-//! `cargo bench --bench days` prints one table in markdown, a line for each call and each number of cards. The registers are of
-//! version 3, and their seasons of every kind. A day is drawn for each register. The reference finds the year by going through the
-//! days, up to the one that it looks for; the proved library's walk looks at each card once.
+//! `cargo bench --bench days` prints one table in markdown, a line for each call and each number of cards. The registers are
+//! of version 3, and their seasons of every kind. A day is drawn for each register. The reference finds the year by going
+//! through the days, up to the one that it looks for.
 //!
 //! As in the benchmark of the rings, a pass goes once through many different registers that lie end to end, told is the
 //! median pass, and the calls pass in turn.

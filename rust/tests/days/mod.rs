@@ -1,12 +1,13 @@
 //! The rings of days and of years, by the proved library and by the reference.
 //!
-//! Registers of all versions, with seasons of every kind and faults of every kind, are asked on days that tell something: those that
-//! no year has, its ends, and the ends of the seasons that are met. Others are asked on every day. All words are compared, on
+//! Registers of all versions, with seasons and faults of every kind, are asked on days that tell something: those that no year
+//! has, its ends, and the ends of the seasons that are met. Others are asked on every day. All words are compared, on
 //! acceptance and on refusal.
 //!
 //! A third opinion is worked out here from what `rings_answer` says of the whole register: from the distances of its cards, or
-//! from its refusal, which comes before that of a day. Another is that call's answer for a register of the cards in force alone. Then
-//! come registers of which one has more: their rings are ordered on each day on which every card in force has a counterpart.
+//! from its refusal, which comes before that of a day. Another is what `rings_leaders_after` says of the cards in force alone.
+//! Then come registers of which one has more: their rings are ordered on each day on which every card in force has a
+//! counterpart.
 
 mod ordered;
 mod registers;
