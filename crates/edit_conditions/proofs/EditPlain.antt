@@ -18,6 +18,7 @@ use Rattle.conditions.specs.First.{refused, first_of}
 use Rattle.edits.specs.Edits.{Edit, add, replace, withdraw, card_number, named, takes, edited, is_there, bad_presence, bad_capacity, held, changed, register_by, edit_of}
 use Rattle.edit_conditions.specs.EditConditions.{of_edit, of_brought}
 use Rattle.edit_conditions.specs.EditClaim.{brought_numbers, OldAccepted, IsAmong, BadPresence, BadCapacity, LengthPlain, PresencePlain, CapacityPlain, NeverFour}
+use Rattle.edit_conditions.proofs.EditExactly.{count_is}
 use Rattle.edit_conditions.proofs.Sources.{Lack, never, either_list, where_met, Source, of_old, of_both, of_new, source}
 
 -- ---- 19 and 20
@@ -58,10 +59,10 @@ module _ (e : Edit) (buffer : List ℕ) (o : OldAccepted buffer) where
   presence_comes b = grind (arith, o.1, (presence_is e (cards_in (held buffer))).1 b)
 
   pub capacity_comes : (BadPresence e (cards_in (held buffer)) → ⊥) → BadCapacity (length buffer) (length (edited e (cards_in (held buffer)))) → edit_of e buffer ≡ Err (refused_at refusal.Capacity 0)
-  unfolding register_by changed edited
+  unfolding register_by changed
   capacity_comes none b =
       let absent : bad_presence (takes e) (is_there (named e) (cards_in (held buffer))) ≡ true → ⊥ = λ h. none ((presence_is e (cards_in (held buffer))).0 h) in
-      grind (arith, o.1, absent, (capacity_is (length buffer) (length (edited e (cards_in (held buffer))))).1 b)
+      grind (arith, o.1, absent, (capacity_is (length buffer) (length (edited e (cards_in (held buffer))))).1 b, count_is e (cards_in (held buffer)))
 
 -- 19 and 20 come from nowhere else
 module _ (e : Edit) (cards : List (List ℕ)) (room : ℕ) where

@@ -1,6 +1,6 @@
 -- What the table of an edit says of number 0: 5 comes for an added card of that number alone, and 19 for one to replace or withdraw.
 -- Assumes nothing.
-use Rattle.std.specs.Prelude.{ℕ, ◌-◌, ◌≤◌, ◌≡◌, refl, true, false, List, [], ◌∷◌, ◌++◌, length, Err}
+use Rattle.std.specs.Prelude.{ℕ, ◌-◌, ◌≤◌, ◌≡◌, refl, true, false, List, [], ◌∷◌, ◌++◌, map, length, Err}
 use Rattle.std.proofs.Common.{arith, zero-le, ◌∙◌, ap, subst}
 use Rattle.std.proofs.lemmas.Bool.Decides.{nat_tests}
 use Rattle.search.specs.Laws.{clash}
@@ -12,15 +12,18 @@ use Rattle.card.specs.declared.Answer.{Answer}
 use Rattle.card.specs.Stock.{stock_of}
 use Rattle.card.specs.Answers.{answer_of}
 use Rattle.header.specs.Header.{cards_in, enough}
+use Rattle.seasons.specs.Seasons.{grown, Given}
 use Rattle.conditions.specs.Conditions.{of_card, conditions_at}
 use Rattle.conditions.specs.First.{passed, refused, first_of}
 use Rattle.conditions.proofs.Exactly.{Told as RegisterTold, told as register_told}
 use Rattle.edits.specs.Edits.{Edit, add, replace, withdraw, card_number, below, edited, is_there, bad_capacity, held, changed, register_with, register_by, edit_of}
+use Rattle.edits.specs.Around.{AllGiven}
+use Rattle.edits.proofs.Lists.{each_below}
 use Rattle.edits.proofs.Rising.{Passes, passed_all, passed_one, answered_above}
 use Rattle.edits.proofs.Brought.{last_from, last_below, brought_sent}
 use Rattle.edit_conditions.specs.EditConditions.{of_edit, new_place, number_before, last_before, of_brought}
 use Rattle.edit_conditions.specs.EditClaim.{OldAccepted, IsAmong, BadPresence, BadCapacity, FiveForZero, ZeroMissing}
-use Rattle.edit_conditions.proofs.EditExactly.{last_is, old_passes}
+use Rattle.edit_conditions.proofs.EditExactly.{last_is, count_is, old_passes, old_given}
 use Rattle.edit_conditions.proofs.Sources.{never, one_number, Source, of_old, of_both, of_new, source}
 use Rattle.edit_conditions.proofs.EditPlain.{there_is, capacity_is, presence_comes, capacity_comes}
 
@@ -48,10 +51,12 @@ bad_zero : (n last : ℕ) → last ≤ n - 1 → bad_number n last ≡ true → 
 unfolding bad_number
 bad_zero n last l h = grind (arith, nat_tests, l, h)
 
-number_zero : (card : List ℕ) (cards behind : List (List ℕ)) → first_of (of_card card (number_before (below (card_number card) cards ++ behind) (length (below (card_number card) cards)))) ≡ refused refusal.Number → card_number card ≡ 0
-number_zero card cards behind h =
+number_zero : (card : List ℕ) (cards behind : List (List ℕ)) → AllGiven cards
+    → first_of (of_card card (number_before (map grown (below (card_number card) cards ++ behind)) (length (below (card_number card) cards)))) ≡ refused refusal.Number → card_number card ≡ 0
+number_zero card cards behind g h =
     let n : ℕ = card_number card in
-    bad_zero n (last_from 0 (below n cards)) (last_below n 0 cards zero-le) (number_bad card (last_from 0 (below n cards)) (rw last_is at h))
+    let same = last_is (below n cards) behind (each_below Given n cards g) in
+    bad_zero n (last_from 0 (below n cards)) (last_below n 0 cards zero-le) (number_bad card (last_from 0 (below n cards)) (rw same at h))
 
 -- a card of number 0 is refused for it
 zero_refused : (card : List ℕ) (last : ℕ) → card_number card ≡ 0 → answer_of card last ≡ Err refusal.Number
@@ -75,10 +80,10 @@ module _ (buffer : List ℕ) (place : ℕ) (o : OldAccepted buffer) where
   five_new : (e : Edit) → edit_of e buffer ≡ Err (refused_at refusal.Number place) → place ≡ new_place e there → first_of (of_brought e (last_before e there)) ≡ refused refusal.Number → ZeroAdded e
   unfolding of_brought edited
   five_new (add card) h p k =
-      let z = number_zero card there _ k in
+      let z = number_zero card there _ (old_given (add card) buffer o) k in
       (p ∙ (ap (λ n. length (below n there)) z ∙ ap length (none_lower there)), (card, refl, z))
   five_new (replace card) h p k =
-      absurd (omega (arith, one_number h ((zero_missing buffer o).0 card (number_zero card there _ k))))
+      absurd (omega (arith, one_number h ((zero_missing buffer o).0 card (number_zero card there _ (old_given (replace card) buffer o) k))))
   five_new (withdraw n) h p k = absurd (never refusal.Number [] refl k)
 
   five_only : (e : Edit) → edit_of e buffer ≡ Err (refused_at refusal.Number place) → ZeroAdded e
@@ -98,7 +103,7 @@ module _ (buffer : List ℕ) (place : ℕ) (o : OldAccepted buffer) where
       absurd (omega (arith, one_number h (capacity_comes e buffer o none b)))
 
   five_comes : (card : List ℕ) → card_number card ≡ 0 → (BadCapacity (length buffer) (length (edited (add card) there)) → ⊥) → edit_of (add card) buffer ≡ Err (refused_at refusal.Number 0)
-  unfolding register_by changed edited register_with
+  unfolding register_by changed register_with
   five_comes card z b =
       let n : ℕ = card_number card in
       let count : ℕ = length (edited (add card) there) in
@@ -107,7 +112,7 @@ module _ (buffer : List ℕ) (place : ℕ) (o : OldAccepted buffer) where
       let roomy : bad_capacity (length buffer) count ≡ true → ⊥ = λ h. b ((capacity_is (length buffer) count).0 h) in
       let first : length (below n there) ≡ 0 = ap (λ k. length (below k there)) z ∙ ap length (none_lower there) in
       let sent = brought_sent n p card refusal.Number (zero_refused card (last_from 0 (below n there)) z) in
-      grind (arith, o.1, absent, roomy, first, sent)
+      grind (arith, o.1, absent, roomy, first, sent, count_is (add card) there)
 
 pub five_for_zero : FiveForZero
 five_for_zero e buffer place o = (

@@ -1,4 +1,5 @@
--- Document 02, A9: demand 1 of an edit, for every edit, with a card of any bytes, and every lent buffer; and what it says in plain words.
+-- Document 02, A9 and A10: demand 1 of an edit, for every edit, with a card of any bytes, and every lent buffer; and what it says in plain
+-- words.
 -- The theorems are `edited_exactly` of proofs/EditExactly.antt; `presence_plain`, `capacity_plain`, `length_plain` and `never_four` of
 -- proofs/EditPlain.antt; `five_for_zero` and `zero_missing` of proofs/EditZero.antt.
 -- Assumes nothing.
@@ -65,9 +66,10 @@ PresencePlain =
     → (edit_of e buffer ≡ Err (refused_at refusal.Presence place))
     ↔ ((place ≡ 0) × OldAccepted buffer × BadPresence e (cards_in (held buffer)))
 
--- "the buffer can't hold the register as it would then be, or it would pass 2,000 cards"
+-- "the buffer can't hold the register as it would then be, or it would pass 2,000 cards". As it would then be it is "version 3, of 11 + 28
+-- × count bytes", of whatever version it is: one to be replaced in it, or even withdrawn, may be too much.
 abbrev pub BadCapacity : ℕ → ℕ → Type 0
-BadCapacity room count = (2_000 < count) ⊎ (room < 11 + 24 * count)
+BadCapacity room count = (2_000 < count) ⊎ (room < 11 + 28 * count)
 
 -- 20 comes, at place 0, exactly when the old register is accepted, 19 is not to be given and so it is.
 abbrev pub CapacityPlain : Type 0

@@ -1,5 +1,6 @@
 -- Document 02, A9: when an edit is sent back. The condition of each number, over the edit, the lent buffer and the place, in the request's
--- words: "19 then 20, both at place 0, after the old register is accepted and before the new card is checked at its new place."
+-- words: "19 then 20, both at place 0, after the old register is accepted and before the new card is checked at its new place." And A10:
+-- "accepted edits .. make any register version 3", so that 20 is asked of that.
 -- Assumes nothing.
 use Rattle.std.specs.Prelude.{ℕ, zero, suc, List, [], ◌∷◌, ◌++◌, eqb, length, get_or, is_ok}
 use Rattle.refusals.specs.declared.Refusal.TheVariants as refusal

@@ -30,7 +30,7 @@ use Rattle.fields.specs.Layout.{fields_of}
 use Rattle.ranges.specs.Ranges.{bad_area, bad_heat, bad_pounds, bad_wall, bounds_of, signed, tenths_of}
 use Rattle.meaning.specs.Reading.{bad_number, flammable_of, meaning_of, substance_of, toxic_meaning}
 use Rattle.form.specs.Form.{ground_of, held_of, open_of, shape_of, state_of, blank}
-use Rattle.seasons.specs.Seasons.{season_of, bad_day, bad_season}
+use Rattle.seasons.specs.Seasons.{season_of, bad_day, bad_season, grown}
 use Rattle.card.specs.Stock.{stock_of}
 use Rattle.card.specs.Answers.{answer_of}
 use Rattle.farthest.specs.Farthest.{leaders_after, leaders_from, leaders_of}
@@ -42,7 +42,7 @@ use Rattle.edits.specs.Edits.{Edit, add, replace, withdraw, below, above, edited
 
 -- ---- the registers
 
--- chlorine in state 2, rural and in the open: 3.00 miles for 2,249 lb, 3.40 for 2,250
+-- the 24 bytes of chlorine in state 2, rural and in the open: 3.00 miles for 2,249 lb, 3.40 for 2,250
 abbrev pub chlorine : ℕ → ℕ → List ℕ
 chlorine pounds number = (1 ∷ 2 ∷ 1 ∷ 0 ∷ []) ++ (four_bytes 7_782_505 ++ (four_bytes pounds ++ (replicate 8 0 ++ four_bytes number)))
 
@@ -60,6 +60,20 @@ second toxic flammable cards =
     four_bytes (11 + 24 * length cards)
     ++ (2 ∷ (two_bytes (length cards) ++ (two_bytes toxic ++ (two_bytes flammable ++ concat cards))))
 
+-- A10: "Version 3 cards are 28 bytes, with a first and a last day of the year .. 2 bytes each"
+abbrev pub from_to : ℕ → ℕ → List ℕ → List ℕ
+from_to day last card = card ++ (two_bytes day ++ two_bytes last)
+
+-- "older cards gaining 1 and 366 behind their bytes"
+abbrev pub all_year : List ℕ → List ℕ
+all_year card = from_to 1 366 card
+
+-- "version 3, of 11 + 28 × count bytes", with the distances of version 2
+abbrev pub third : ℕ → ℕ → List (List ℕ) → List ℕ
+third toxic flammable cards =
+    four_bytes (11 + 28 * length cards)
+    ++ (3 ∷ (two_bytes (length cards) ++ (two_bytes toxic ++ (two_bytes flammable ++ concat cards))))
+
 -- bytes behind a register that are no part of it
 abbrev pub rubbish : ℕ → List ℕ
 rubbish n = replicate n 165
@@ -67,12 +81,22 @@ rubbish n = replicate n 165
 abbrev pub zeros : ℕ → List ℕ
 zeros n = replicate n 0
 
--- two cards of propane, with room between their numbers, and the first of them in a register of 35 bytes that stores its distance
+-- two older cards of propane, with room between their numbers, and the first of them in a register of 39 bytes that stores its distance
 abbrev pub two : List (List ℕ)
 two = propane 10_000 13 ∷ propane 10_000 15 ∷ []
 
 abbrev pub only_13 : List ℕ
-only_13 = second 0 18 (propane 10_000 13 ∷ [])
+only_13 = third 0 18 (all_year (propane 10_000 13) ∷ [])
+
+-- older cards of propane from number 2 on, and one of number 1 in front of them
+abbrev pub five : List (List ℕ)
+five = map (propane 10_000) (2 ∷ 3 ∷ 4 ∷ 5 ∷ 6 ∷ [])
+
+abbrev pub six : List (List ℕ)
+six = five ++ (propane 10_000 7 ∷ [])
+
+abbrev pub one_more : List (List ℕ) → List (List ℕ)
+one_more cards = propane 10_000 1 ∷ cards
 
 -- ---- the table
 
@@ -97,47 +121,70 @@ refused number place e buffer = record { edit = e; buffer = buffer; told = sent_
 
 unfoldable pub table : List Example
 table =
-    -- a card is added before two others, between them and behind them: version 1 is carried to version 2, in a buffer just long enough
-    accepted (add (chlorine 2_249 12)) (first two ++ rubbish 28) 83
-    (second 300 18 (chlorine 2_249 12 ∷ propane 10_000 13 ∷ propane 10_000 15 ∷ []))
-    ∷ accepted (add (chlorine 2_249 14)) (first two ++ rubbish 28) 83
-    (second 300 18 (propane 10_000 13 ∷ chlorine 2_249 14 ∷ propane 10_000 15 ∷ []))
-    ∷ accepted (add (chlorine 2_249 16)) (first two ++ rubbish 28) 83
-    (second 300 18 (propane 10_000 13 ∷ propane 10_000 15 ∷ chlorine 2_249 16 ∷ []))
-    -- and in version 2, behind which the bytes become zeros
-    ∷ accepted (add (chlorine 2_250 16)) (second 300 0 (chlorine 2_249 12 ∷ []) ++ rubbish 29) 59
-    (second 340 0 (chlorine 2_249 12 ∷ chlorine 2_250 16 ∷ []) ++ zeros 5)
-    -- a card is replaced, and only its number stays; by the same bytes too version 1 is carried to version 2
-    ∷ accepted (replace (propane 20_000 12)) (second 300 18 (chlorine 2_249 12 ∷ propane 10_000 13 ∷ [])) 59
-    (second 0 22 (propane 20_000 12 ∷ propane 10_000 13 ∷ []))
-    ∷ accepted (replace (propane 10_000 13)) (first (propane 10_000 13 ∷ []) ++ rubbish 4) 35 only_13
+    -- a card is added before two others, between them and behind them: version 1 is carried to version 3, in a buffer just long enough
+    accepted (add (all_year (chlorine 2_249 12))) (first two ++ rubbish 40) 95
+    (third 300 18 (map all_year (chlorine 2_249 12 ∷ propane 10_000 13 ∷ propane 10_000 15 ∷ [])))
+    ∷ accepted (add (all_year (chlorine 2_249 14))) (first two ++ rubbish 40) 95
+    (third 300 18 (map all_year (propane 10_000 13 ∷ chlorine 2_249 14 ∷ propane 10_000 15 ∷ [])))
+    ∷ accepted (add (all_year (chlorine 2_249 16))) (first two ++ rubbish 40) 95
+    (third 300 18 (map all_year (propane 10_000 13 ∷ propane 10_000 15 ∷ chlorine 2_249 16 ∷ [])))
+    -- and so is version 2, behind which the bytes become zeros
+    ∷ accepted (add (all_year (chlorine 2_250 16))) (second 300 0 (chlorine 2_249 12 ∷ []) ++ rubbish 37) 67
+    (third 340 0 (map all_year (chlorine 2_249 12 ∷ chlorine 2_250 16 ∷ [])) ++ zeros 5)
+    -- a season is kept as it is, and one across New Year is accepted; the header keeps the year's distances, those of a single day too
+    ∷ accepted (add (from_to 300 60 (chlorine 2_249 12))) (only_13 ++ rubbish 28) 67
+    (third 300 18 (from_to 300 60 (chlorine 2_249 12) ∷ all_year (propane 10_000 13) ∷ []))
+    ∷ accepted (add (from_to 366 1 (chlorine 2_249 12))) (only_13 ++ rubbish 28) 67
+    (third 300 18 (from_to 366 1 (chlorine 2_249 12) ∷ all_year (propane 10_000 13) ∷ []))
+    ∷ accepted (add (from_to 200 200 (propane 20_000 14))) (third 0 18 (from_to 60 90 (propane 10_000 13) ∷ []) ++ rubbish 28) 67
+    (third 0 22 (from_to 60 90 (propane 10_000 13) ∷ from_to 200 200 (propane 20_000 14) ∷ []))
+    -- a card is replaced, its days too, and only its number stays; by the same bytes version 3 stays as it is, and version 1 is carried to it
+    ∷ accepted (replace (from_to 60 90 (propane 20_000 12))) (third 300 18 (map all_year (chlorine 2_249 12 ∷ propane 10_000 13 ∷ []))) 67
+    (third 0 22 (from_to 60 90 (propane 20_000 12) ∷ all_year (propane 10_000 13) ∷ []))
+    ∷ accepted (replace (all_year (propane 10_000 13))) only_13 39 only_13
+    ∷ accepted (replace (all_year (propane 10_000 13))) (first (propane 10_000 13 ∷ []) ++ rubbish 8) 39 only_13
     -- a card is withdrawn from the middle
-    ∷ accepted (withdraw 14) (second 300 18 (propane 10_000 13 ∷ chlorine 2_249 14 ∷ propane 10_000 15 ∷ [])) 59
-    (second 0 18 two ++ zeros 24)
+    ∷ accepted (withdraw 14) (third 300 18 (map all_year (propane 10_000 13 ∷ chlorine 2_249 14 ∷ propane 10_000 15 ∷ []))) 67
+    (third 0 18 (map all_year two) ++ zeros 28)
     -- the last card is withdrawn: 11 bytes, no card and no distance, and zeros behind
-    ∷ accepted (withdraw 13) only_13 11 (0 ∷ 0 ∷ 0 ∷ 11 ∷ 2 ∷ 0 ∷ 0 ∷ 0 ∷ 0 ∷ 0 ∷ 0 ∷ zeros 24)
-    ∷ accepted (withdraw 13) (first (propane 10_000 13 ∷ [])) 11 (0 ∷ 0 ∷ 0 ∷ 11 ∷ 2 ∷ 0 ∷ 0 ∷ 0 ∷ 0 ∷ 0 ∷ 0 ∷ zeros 20)
+    ∷ accepted (withdraw 13) only_13 11 (0 ∷ 0 ∷ 0 ∷ 11 ∷ 3 ∷ 0 ∷ 0 ∷ 0 ∷ 0 ∷ 0 ∷ 0 ∷ zeros 28)
+    ∷ accepted (withdraw 13) (first (propane 10_000 13 ∷ [])) 11 (0 ∷ 0 ∷ 0 ∷ 11 ∷ 3 ∷ 0 ∷ 0 ∷ 0 ∷ 0 ∷ 0 ∷ 0 ∷ zeros 20)
     -- 19: "no card of that number to replace or withdraw, or one there already to add"
-    ∷ refused 19 0 (add (propane 10_000 13)) (only_13 ++ rubbish 24)
-    ∷ refused 19 0 (replace (propane 10_000 14)) (only_13 ++ rubbish 24)
-    ∷ refused 19 0 (withdraw 14) (only_13 ++ rubbish 24)
-    -- 20: "the buffer can't hold the register as it would then be": a byte too little for a card more, and no room for version 2
-    ∷ refused 20 0 (add (propane 10_000 14)) (first (propane 10_000 13 ∷ []) ++ rubbish 27)
-    ∷ refused 20 0 (replace (propane 20_000 13)) (first (propane 10_000 13 ∷ []))
+    ∷ refused 19 0 (add (all_year (propane 10_000 13))) (only_13 ++ rubbish 28)
+    ∷ refused 19 0 (replace (all_year (propane 10_000 14))) (only_13 ++ rubbish 28)
+    ∷ refused 19 0 (withdraw 14) (only_13 ++ rubbish 28)
+    -- 20: "the buffer can't hold the register as it would then be": a byte too little for a card more, and in a buffer as long as itself no
+    -- room for the days of version 1's cards, or of version 2's
+    ∷ refused 20 0 (add (all_year (propane 10_000 14))) (only_13 ++ rubbish 27)
+    ∷ refused 20 0 (replace (all_year (propane 20_000 13))) (first (propane 10_000 13 ∷ []))
+    ∷ refused 20 0 (replace (all_year (propane 20_000 13))) (second 0 18 (propane 10_000 13 ∷ []))
+    -- nor, of seven cards in version 1, for those of the six that are left when one is withdrawn; of six there is just enough
+    ∷ refused 20 0 (withdraw 1) (first (one_more six))
+    ∷ accepted (withdraw 1) (first (one_more five)) 151 (third 0 18 (map all_year five))
     -- 19 before 20, and both before the new card, of 0 lb: "at its new place" this is 8
-    ∷ refused 19 0 (add (chlorine 0 13)) only_13
-    ∷ refused 20 0 (add (chlorine 0 14)) only_13
-    ∷ refused 8 1 (add (chlorine 0 14)) (only_13 ++ rubbish 24)
+    ∷ refused 19 0 (add (all_year (chlorine 0 13))) only_13
+    ∷ refused 20 0 (add (all_year (chlorine 0 14))) only_13
+    ∷ refused 8 1 (add (all_year (chlorine 0 14))) (only_13 ++ rubbish 28)
+    -- 21: "a day outside 1 to 366, on a card after its temperature", at its new place, the first day or the last; behind 19, 20 and 8
+    ∷ refused 21 1 (add (from_to 0 366 (propane 10_000 14))) (only_13 ++ rubbish 28)
+    ∷ refused 21 1 (add (from_to 367 366 (chlorine 2_249 14))) (only_13 ++ rubbish 28)
+    ∷ refused 21 0 (replace (from_to 1 0 (propane 10_000 13))) only_13
+    ∷ refused 21 0 (replace (from_to 1 367 (chlorine 2_249 13))) only_13
+    ∷ refused 19 0 (add (from_to 0 0 (propane 10_000 13))) only_13
+    ∷ refused 20 0 (add (from_to 0 0 (propane 10_000 14))) only_13
+    ∷ refused 8 1 (add (from_to 0 0 (propane 0 14))) (only_13 ++ rubbish 28)
     -- number 0 is 5 where it is added, and 19 where it is to be replaced or withdrawn
-    ∷ refused 5 0 (add (propane 10_000 0)) (only_13 ++ rubbish 24)
-    ∷ refused 19 0 (replace (propane 10_000 0)) only_13
+    ∷ refused 5 0 (add (all_year (propane 10_000 0))) (only_13 ++ rubbish 28)
+    ∷ refused 19 0 (replace (all_year (propane 10_000 0))) only_13
     ∷ refused 19 0 (withdraw 0) only_13
     -- 1: "its length field is under 7 or past the buffer", and where there are no four bytes
-    ∷ refused 1 0 (add (propane 10_000 13)) (0 ∷ 0 ∷ 0 ∷ 6 ∷ 1 ∷ 0 ∷ 0 ∷ rubbish 40)
+    ∷ refused 1 0 (add (all_year (propane 10_000 13))) (0 ∷ 0 ∷ 0 ∷ 6 ∷ 1 ∷ 0 ∷ 0 ∷ rubbish 40)
     ∷ refused 1 0 (withdraw 1) (0 ∷ 0 ∷ 0 ∷ 8 ∷ 1 ∷ 0 ∷ 0 ∷ [])
     ∷ refused 1 0 (withdraw 1) (0 ∷ 0 ∷ 0 ∷ [])
-    -- "after the old register is accepted": a wrong stored distance is 3, before 19
+    -- "after the old register is accepted": a wrong stored distance is 3, and a day 0 on an old card 21, before 19
     ∷ refused 3 0 (withdraw 14) (second 0 19 (propane 10_000 13 ∷ []))
+    ∷ refused 3 0 (withdraw 14) (third 0 19 (all_year (propane 10_000 13) ∷ []))
+    ∷ refused 21 0 (withdraw 14) (third 0 18 (from_to 0 366 (propane 10_000 13) ∷ []))
     ∷ []
 
 abbrev pub told_of : Result ℕ (SentBack ℕ) → Told
@@ -156,5 +203,5 @@ defined x =
 
 -- Every example of the table.
 pub examples : map defined table ≡ table
-unfolding table two_bytes four_bytes outcome_of cards_of cards_from wrong_for cards_in stored_in layout_in layout_of header_of bad_length bad_version bad_count bad_buffer leaders_of leaders_from leaders_after answer_of stock_of season_of bad_day bad_season fields_of bad_area bad_heat bad_number bad_pounds bad_wall blank bounds_of flammable_of ground_of held_of meaning_of open_of shape_of signed state_of substance_of tenths_of toxic_meaning factors_of toxic_of b1 b2 b3 b4 bad_percent highest lines_of lowest solution_of among look_up is_flammable heat_of first_from metres_of ring_of c1 table1 table2 table3 table4 endpoints5 endpoints6 endpoints7 endpoints8 rates5 rates6 rates7 rates8 table5 table6 table7 table8 table9 table10 table11 table12 answered apart by_range by_row closest closest_column closest_from closest_row distance from_column holding in_use larger largest last_of mark_of past ratio_below smaller thousandths read_in reading_of tables column_of plan_of pool_of table_of vapor_of at_most_ten_minutes diked_area pool_rate edited below above is_there bad_capacity header_bytes register_of register_with held changed register_by
+unfolding table two_bytes four_bytes outcome_of cards_of cards_from wrong_for cards_in stored_in layout_in layout_of header_of bad_length bad_version bad_count bad_buffer leaders_of leaders_from leaders_after answer_of stock_of season_of bad_day bad_season grown fields_of bad_area bad_heat bad_number bad_pounds bad_wall blank bounds_of flammable_of ground_of held_of meaning_of open_of shape_of signed state_of substance_of tenths_of toxic_meaning factors_of toxic_of b1 b2 b3 b4 bad_percent highest lines_of lowest solution_of among look_up is_flammable heat_of first_from metres_of ring_of c1 table1 table2 table3 table4 endpoints5 endpoints6 endpoints7 endpoints8 rates5 rates6 rates7 rates8 table5 table6 table7 table8 table9 table10 table11 table12 answered apart by_range by_row closest closest_column closest_from closest_row distance from_column holding in_use larger largest last_of mark_of past ratio_below smaller thousandths read_in reading_of tables column_of plan_of pool_of table_of vapor_of at_most_ten_minutes diked_area pool_rate edited below above is_there bad_capacity header_bytes register_of register_with held changed register_by
 examples = refl
