@@ -15,6 +15,8 @@ use Rattle.scenario.specs.Plan.{plan_of}
 use Rattle.fields.specs.declared.Fields.{Fields}
 use Rattle.buffer.specs.Numbers.{byte_at}
 use Rattle.fields.specs.Layout.{fields_of}
+use Rattle.seasons.specs.declared.Season.{Season}
+use Rattle.seasons.specs.Seasons.{season_of, bad_season}
 use Rattle.refusals.specs.declared.Refusal.{Refusal}
 use Rattle.refusals.specs.declared.Refusal.TheVariants as refusal
 use Rattle.form.specs.declared.Standing.{Standing}
@@ -26,7 +28,8 @@ use Rattle.form.specs.Form.{shape_of}
 use Rattle.meaning.specs.Reading.{substance_of, is_listed, meaning_if, toxic_bounded, toxic_meaning, flammable_of, meaning_of}
 use Rattle.form.specs.Inverse.{Stands, toxic_shape, flammable_shape}
 use Rattle.form.specs.Same.{flammable_blank}
-use Rattle.card.specs.Answers.{planned_answer, answer_for, answer_of}
+use Rattle.card.specs.Stock.{in_season, stock_of}
+use Rattle.card.specs.Answers.{planned_answer, answer_by, answer_for, answer_of}
 use Rattle.conditions.specs.Conditions.{of_flammable, bad_cas, bad_temperature, bad_concentration, mismatched, beyond_plan, beyond, of_card}
 use Rattle.conditions.specs.First.{Verdict, passed, refused, pick, first_of}
 use Rattle.conditions.proofs.Form.{form_is}
@@ -88,43 +91,53 @@ module _ (card : List ℕ) where
 
 -- ---- a toxic card
 
--- what 7 to 9, 14 to 16 and 10 come to, in front of a verdict
-abbrev pub up_to_mismatch : List ℕ → Verdict → Verdict
-up_to_mismatch card further =
+-- what 7 to 9 and 14 to 16 come to, all that a card's meaning asks, in front of a verdict
+abbrev pub up_to_meaning : List ℕ → Verdict → Verdict
+up_to_meaning card further =
     pick (bad_cas card) refusal.Unlisted
     (pick (bad_pounds (fields_of card).pounds) refusal.Quantity
     (pick (bad_area (byte_at card 3) (fields_of card).area) refusal.Area
     (pick (bad_wall (fields_of card).wall) refusal.Wall
     (pick (bad_temperature card) refusal.Temperature
-    (pick (bad_concentration card) refusal.Concentration
-    (pick (mismatched card) refusal.Mismatch further))))))
+    (pick (bad_concentration card) refusal.Concentration further)))))
 
--- what any call makes of a toxic card whose form is sound: these in turn, and behind them what it makes of the card in meaning
-pub toxic_verdict : (told : Result Meaning Refusal → Verdict) (refusing : (r : Refusal) → told (Err r) ≡ refused r) (card : List ℕ) (standing : Standing) (v : Verdict) → shape_of (fields_of card) ≡ Ok (shape.Toxic standing) → told (Ok (meaning.Toxic (card_from (fields_of card) standing))) ≡ pick (is_none (plan_of (card_from (fields_of card) standing))) refusal.Mismatch v → told (toxic_meaning (substance_of (fields_of card)) (fields_of card) standing) ≡ up_to_mismatch card v
+-- What any call makes of a toxic card whose form is sound: these in turn, and behind them what it makes of the card in meaning, which
+-- goes by whether 10 holds. What else a call asks of a card, and in which turn, is its own.
+pub toxic_verdict : (told : Result Meaning Refusal → Verdict) (refusing : (r : Refusal) → told (Err r) ≡ refused r) (card : List ℕ) (standing : Standing) (further : Bool → Verdict) → shape_of (fields_of card) ≡ Ok (shape.Toxic standing) → told (Ok (meaning.Toxic (card_from (fields_of card) standing))) ≡ further (is_none (plan_of (card_from (fields_of card) standing))) → told (toxic_meaning (substance_of (fields_of card)) (fields_of card) standing) ≡ up_to_meaning card (further (mismatched card))
 unfolding toxic_meaning bounds_of fields_of
-toxic_verdict told refusing card standing v e h =
+toxic_verdict told refusing card standing further e h =
     let from = toxic_shape (fields_of card) e in
     grind (arith, refusing, listed_is card from.kind, heat_is card, concentration_is card, mismatch_is card standing from, h)
 
--- what the register's call makes of a meaning
-abbrev verdict_for : ℕ → Result Meaning Refusal → Verdict
-verdict_for n m = verdict_of (answer_for m n)
+-- what the register's call makes of a meaning, with the season that the card has
+abbrev verdict_for : List ℕ → Result Meaning Refusal → Verdict
+verdict_for card m = verdict_of (answer_for (in_season m (season_of card)) (fields_of card).number)
 
-plan_verdict : (n : ℕ) (p : Option Scenario) (card : ToxicCard) → verdict_of (planned_answer p n card) ≡ pick (is_none p) refusal.Mismatch (pick (beyond_plan p card.topography) refusal.Beyond passed)
-plan_verdict n p card = grind (arith, reading_beyond)
+-- 21 comes before all that is asked of a meaning
+season_verdict : (card : List ℕ) (m : Meaning) → verdict_for card (Ok m) ≡ pick (bad_season (season_of card)) refusal.Day (verdict_of (answer_by m (season_of card) (fields_of card).number))
+season_verdict card m = grind arith
 
-toxic_card_verdict : (card : List ℕ) (n : ℕ) (standing : Standing) → shape_of (fields_of card) ≡ Ok (shape.Toxic standing) → verdict_for n (toxic_meaning (substance_of (fields_of card)) (fields_of card) standing) ≡ behind_form card
+plan_verdict : (n : ℕ) (season : Season) (p : Option Scenario) (card : ToxicCard) → verdict_of (planned_answer p n season card) ≡ pick (is_none p) refusal.Mismatch (pick (beyond_plan p card.topography) refusal.Beyond passed)
+plan_verdict n season p card = grind (arith, reading_beyond)
+
+toxic_card_verdict : (card : List ℕ) (standing : Standing) → shape_of (fields_of card) ≡ Ok (shape.Toxic standing) → verdict_for card (toxic_meaning (substance_of (fields_of card)) (fields_of card) standing) ≡ behind_form card
 unfolding of_card first_of
-toxic_card_verdict card n standing e =
+toxic_card_verdict card standing e =
     let made : ToxicCard = card_from (fields_of card) standing in
-    toxic_verdict (verdict_for n) (λ r. refl) card standing (pick (beyond card) refusal.Beyond passed) e
-    (grind (arith, plan_verdict n (plan_of made) made, beyond_toxic card standing (toxic_shape (fields_of card) e)))
+    let behind : Bool → Verdict = λ b. pick (bad_season (season_of card)) refusal.Day (pick b refusal.Mismatch (pick (beyond card) refusal.Beyond passed)) in
+    toxic_verdict (verdict_for card) (λ r. refl) card standing behind e
+    (grind (
+      arith,
+      season_verdict card (meaning.Toxic made),
+      plan_verdict (fields_of card).number (season_of card) (plan_of made) made,
+      beyond_toxic card standing (toxic_shape (fields_of card) e),
+    ))
 
 -- ---- a flammable card
 
-flammable_verdict : (card : List ℕ) (n : ℕ) → shape_of (fields_of card) ≡ Ok shape.Flammable → verdict_of (answer_for (flammable_of (fields_of card)) n) ≡ behind_form card
+flammable_verdict : (card : List ℕ) → shape_of (fields_of card) ≡ Ok shape.Flammable → verdict_for card (flammable_of (fields_of card)) ≡ behind_form card
 unfolding flammable_of fields_of of_flammable is_flammable of_card first_of bad_cas beyond bad_area bad_wall bad_heat signed among
-flammable_verdict card n e =
+flammable_verdict card e =
     let b = flammable_blank (fields_of card) e in
     grind (arith, nat_tests, flammable_shape (fields_of card) e, b, mismatch_none card 0 b.state refl)
 
@@ -132,7 +145,6 @@ flammable_verdict card n e =
 
 -- a card is refused by the first of its conditions that holds, and answered where none does
 pub card_verdict : (card : List ℕ) (last : ℕ) → verdict_of (answer_of card last) ≡ first_of (of_card card last)
-unfolding answer_of meaning_of of_card first_of
+unfolding answer_of stock_of meaning_of of_card first_of
 card_verdict card last =
-    let n : ℕ = (fields_of card).number in
-    grind (arith, form_is card, form_refused (fields_of card), toxic_card_verdict card n, flammable_verdict card n)
+    grind (arith, form_is card, form_refused (fields_of card), toxic_card_verdict card, flammable_verdict card)

@@ -44,8 +44,8 @@ RefusedExactly =
 abbrev pub number_in : Condition → ℕ
 number_in (condition r b) = number_of r
 
--- The lines stand in the order of document 01's numbers, with 14, 15 and 16 "where 9 was", behind it and above 10, and 3 once more at
--- the end.
-pub numbered : (bytes : List ℕ) (room place : ℕ) → map number_in (conditions_at bytes room place) ≡ 1 ∷ 2 ∷ 3 ∷ 4 ∷ 5 ∷ 6 ∷ 7 ∷ 8 ∷ 9 ∷ 14 ∷ 15 ∷ 16 ∷ 10 ∷ 11 ∷ 3 ∷ []
+-- The lines stand in the order of document 01's numbers, with 14, 15 and 16 "where 9 was", behind it and above 10, 21 between them and
+-- 10, and 3 once more at the end.
+pub numbered : (bytes : List ℕ) (room place : ℕ) → map number_in (conditions_at bytes room place) ≡ 1 ∷ 2 ∷ 3 ∷ 4 ∷ 5 ∷ 6 ∷ 7 ∷ 8 ∷ 9 ∷ 14 ∷ 15 ∷ 16 ∷ 21 ∷ 10 ∷ 11 ∷ 3 ∷ []
 unfolding conditions_at only of_register of_card at_last
 numbered bytes room place = refl

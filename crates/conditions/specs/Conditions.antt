@@ -28,6 +28,7 @@ use Rattle.factors.specs.Columns.{columns}
 use Rattle.scenario.specs.Plan.{plan_of}
 use Rattle.buffer.specs.Numbers.{byte_at}
 use Rattle.fields.specs.Layout.{fields_of}
+use Rattle.seasons.specs.Seasons.{season_of, bad_season}
 use Rattle.refusals.specs.declared.Refusal.{Refusal}
 use Rattle.refusals.specs.declared.Refusal.TheVariants as refusal
 use Rattle.ranges.specs.Ranges.{bad_pounds, bad_area, bad_wall, bad_heat, signed, tenths_of}
@@ -258,8 +259,9 @@ of_register bytes room =
     ∷ condition refusal.Buffer (bad_buffer bytes room)
     ∷ []
 
--- 5 to 11 and 14 to 16, of a card and the number of the card before it. Document 02, A2: 9 "becomes area only; area, wall and
--- temperature are checked in that order, where 9 was"; A3: 16 stands "at temperature's place in the order".
+-- 5 to 11, 14 to 16 and 21, of a card and the number of the card before it. Document 02, A2: 9 "becomes area only; area, wall and
+-- temperature are checked in that order, where 9 was"; A3: 16 stands "at temperature's place in the order"; A10: "21 a day outside 1 to
+-- 366, on a card after its temperature", so after its concentration too and before 10, whatever the card's kind.
 unfoldable pub of_card : List ℕ → ℕ → List Condition
 of_card card last =
     condition refusal.Number (bad_number (fields_of card).number last)
@@ -270,6 +272,7 @@ of_card card last =
     ∷ condition refusal.Wall (bad_wall (fields_of card).wall)
     ∷ condition refusal.Temperature (bad_temperature card)
     ∷ condition refusal.Concentration (bad_concentration card)
+    ∷ condition refusal.Day (bad_season (season_of card))
     ∷ condition refusal.Mismatch (mismatched card)
     ∷ condition refusal.Beyond (beyond card)
     ∷ []

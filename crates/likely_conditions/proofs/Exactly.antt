@@ -22,11 +22,11 @@ use Rattle.form.specs.declared.Shape.{Shape}
 use Rattle.form.specs.declared.Shape.TheVariants as shape
 use Rattle.form.specs.Form.{shape_of}
 use Rattle.form.specs.Inverse.{toxic_shape, flammable_shape}
-use Rattle.conditions.specs.Conditions.{unlisted, bad_form, toxic_card, Condition}
+use Rattle.conditions.specs.Conditions.{unlisted, bad_form, mismatched, toxic_card, Condition}
 use Rattle.conditions.specs.First.{Verdict, passed, refused, pick, first_of, first_here, first_elsewhere}
 use Rattle.conditions.proofs.Form.{form_is}
 use Rattle.conditions.proofs.Vessel.{card_from, card_made}
-use Rattle.conditions.proofs.Cards.{form_refused, up_to_mismatch, toxic_verdict}
+use Rattle.conditions.proofs.Cards.{form_refused, up_to_meaning, toxic_verdict}
 use Rattle.conditions.proofs.Tables.{Passes, Refuses, exactly_by}
 use Rattle.likely_scenario.specs.declared.LikelyScenario.{LikelyScenario}
 use Rattle.likely_scenario.specs.LikelyScenario.{planned_likely, meant_likely, shaped_likely, card_likely, likely_of}
@@ -63,17 +63,18 @@ form_line card =
 -- ---- the card, and what is supplied
 
 module _ (card : List ℕ) (rate minutes : ℕ) where
-  -- what 11 comes to, and all lines behind 6
-  abbrev last_line : Verdict
-  last_line = pick (beyond_likely (toxic_card card) rate minutes) refusal.Beyond passed
+  -- what 10 and 11 come to, by whether 10 holds: a card of 24 bytes has no days, so that 21 is not among what is asked
+  abbrev last_lines : Bool → Verdict
+  last_lines b = pick b refusal.Mismatch (pick (beyond_likely (toxic_card card) rate minutes) refusal.Beyond passed)
 
+  -- what all lines behind 6 come to
   abbrev behind_form : Verdict
-  behind_form = up_to_mismatch card last_line
+  behind_form = up_to_meaning card (last_lines (mismatched card))
 
   toxic_card_verdict : (standing : Standing) → shape_of (fields_of card) ≡ Ok (shape.Toxic standing) → verdict_of (shaped_likely (Ok (shape.Toxic standing)) (fields_of card) rate minutes) ≡ behind_form
   toxic_card_verdict standing e =
       let made : ToxicCard = card_from (fields_of card) standing in
-      toxic_verdict (λ m. verdict_of (meant_likely m rate minutes)) (λ r. refl) card standing last_line e
+      toxic_verdict (λ m. verdict_of (meant_likely m rate minutes)) (λ r. refl) card standing last_lines e
       (grind (arith, plan_verdict rate minutes (plan_of made) made (endpoint_is made), card_made card standing (toxic_shape (fields_of card) e)))
 
   card_verdict : verdict_of (card_likely card rate minutes) ≡ pick (not_toxic_form card) refusal.Form behind_form
