@@ -29,7 +29,7 @@ module _ (card : List ℕ) where
   long : Given card → 24 ≤ length card
   long g = ⊎_elim (λ e. omega (arith, e)) (λ e. omega (arith, e)) g
 
-  grown_fields : Given card → fields_of (grown card) ≡ fields_of card
+  pub grown_fields : Given card → fields_of (grown card) ≡ fields_of card
   unfolding grown
   grown_fields g = fields_kept card (gained (is_older card)) (long g)
 
@@ -56,9 +56,15 @@ module _ (card : List ℕ) where
         let older : is_older card ≡ true = grind (arith, nat_tests, e) in
         ap season_of gains ∙ grind (arith, longer, older, season_read)
 
-  newer : length card ≡ 28 → grown card ≡ card
+  -- a card of version 3 stays as it is
+  pub newer : length card ≡ 28 → grown card ≡ card
   unfolding grown
   newer e = let longer : is_older card ≡ false = grind (arith, nat_tests, e) in ap (λ b. card ++ gained b) longer ∙ append-nil card
+
+  -- either has the 28 bytes of version 3
+  pub grown_long : Given card → length (grown card) ≡ 28
+  unfolding four
+  grown_long g = ⊎_elim (λ e. omega (arith, ap length (gains e), length-append card (four e), e)) (λ e. omega (arith, ap length (newer e), e)) g
 
   pub grown_season : Given card → season_of (grown card) ≡ season_of card
   grown_season g = ⊎_elim older_season (λ e. ap season_of (newer e)) g

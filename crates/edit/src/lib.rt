@@ -30,18 +30,18 @@ fn in_the_way(wanted: bool, there: bool, room: usize, count: usize) -> Result<()
 // The register of these cards, at the start of a buffer. Those in front and those behind have passed already, in the walk over the old
 // ones; only the card that is brought is still to be answered, behind those in front.
 fn lay(
-    front: &[[u8; 24]],
-    brought: &[[u8; 24]],
-    behind: &[[u8; 24]],
+    front: Cards,
+    brought: Cards,
+    behind: Cards,
     before: Running,
     after: Leaders,
     own: &mut [u8],
 ) -> Result<usize, SentBack<u32>>
-    requires few { length front.now + (length brought.now + length behind.now) ≤ 2000 }
-    requires roomy { size_of edit_layout (length front.now + (length brought.now + length behind.now)) ≤ length own.old }
-    requires known { Known front.now brought.now behind.now before after }
-    ensures value { result ≡ length_of (register_with (front.now ++ (brought.now ++ behind.now))) }
-    ensures laid { LaidIn own.new (size_of edit_layout (length front.now + (length brought.now + length behind.now))) (register_with (front.now ++ (brought.now ++ behind.now))) }
+    requires few { length (in_turn front) + (length (in_turn brought) + length (in_turn behind)) ≤ 2000 }
+    requires roomy { size_of edit_layout (length (in_turn front) + (length (in_turn brought) + length (in_turn behind))) ≤ length own.old }
+    requires known { Known (in_turn front) (in_turn brought) (in_turn behind) before after }
+    ensures value { result ≡ length_of (register_with ((in_turn front.entry) ++ ((in_turn brought.entry) ++ (in_turn behind.entry)))) }
+    ensures laid { LaidIn own.new (size_of edit_layout (length (in_turn front.entry) + (length (in_turn brought.entry) + length (in_turn behind.entry)))) (register_with ((in_turn front.entry) ++ ((in_turn brought.entry) ++ (in_turn behind.entry)))) }
 {
     let with = edit_walk::part(brought, before)?;
     let leaders = edit_walk::merge(before.leaders, edit_walk::merge(with.leaders, after));
@@ -57,17 +57,17 @@ fn lay(
 // The register as it would then be, of the cards of one with a good header: their own refusals and a wrong stored distance come first, then
 // 19 and 20, before the new card is looked at.
 fn change(
-    cards: &[[u8; 24]],
+    cards: Cards,
     stored: Option<Stored>,
     number: u32,
     wanted: bool,
-    brought: &[[u8; 24]],
+    brought: Cards,
     room: usize,
     own: &mut [u8],
 ) -> Result<usize, SentBack<u32>>
-    requires { (length cards.now ≤ 2000) × (size_of edit_layout (length cards.now + 1) ≤ length own.old) × Brings number brought.now }
-    ensures value { result ≡ length_of (change_of stored number wanted brought.now cards.now room) }
-    ensures laid { LaidIn own.new room (change_of stored number wanted brought.now cards.now room) }
+    requires { (length (in_turn cards) ≤ 2000) × (size_of edit_layout (length (in_turn cards) + 1) ≤ length own.old) × Brings number (in_turn brought) }
+    ensures value { result ≡ length_of (change_of stored number wanted (in_turn brought.entry) (in_turn cards.entry) room) }
+    ensures laid { LaidIn own.new room (change_of stored number wanted (in_turn brought.entry) (in_turn cards.entry) room) }
 {
     let (front, named, behind) = edits::around(cards, number);
     let (before, after) = edit_walk::walk_around(front, named, behind, stored)?;
@@ -82,12 +82,12 @@ fn change_held(
     buffer: &[u8],
     number: u32,
     wanted: bool,
-    brought: &[[u8; 24]],
+    brought: Cards,
     own: &mut [u8],
 ) -> Result<usize, SentBack<u32>>
-    requires { Ready (held buffer.now) (length own.old) × Brings number brought.now }
-    ensures value { result ≡ length_of (register_by number wanted brought.now buffer.now) }
-    ensures laid { LaidIn own.new (length buffer.now) (register_by number wanted brought.now buffer.now) }
+    requires { Ready (held buffer.now) (length own.old) × Brings number (in_turn brought) }
+    ensures value { result ≡ length_of (register_by number wanted (in_turn brought.entry) buffer.now) }
+    ensures laid { LaidIn own.new (length buffer.now) (register_by number wanted (in_turn brought.entry) buffer.now) }
 {
     let register = edits::held(buffer);
     let cards = header::cards_of(register);
@@ -101,11 +101,11 @@ fn edit_by<const ROOM: usize>(
     buffer: &mut [u8],
     number: u32,
     wanted: bool,
-    brought: &[[u8; 24]],
+    brought: Cards,
 ) -> Result<usize, SentBack<u32>>
-    requires { (ROOM ≤ 48_035) × Ready (held buffer.old) ROOM × Brings number brought.now }
-    ensures value { result ≡ length_of (register_by number wanted brought.now buffer.old) }
-    ensures buffer_after { buffer.new ≡ left_by (register_by number wanted brought.now buffer.old) buffer.old }
+    requires { (ROOM ≤ 48_035) × Ready (held buffer.old) ROOM × Brings number (in_turn brought) }
+    ensures value { result ≡ length_of (register_by number wanted (in_turn brought.entry) buffer.old) }
+    ensures buffer_after { buffer.new ≡ left_by (register_by number wanted (in_turn brought.entry) buffer.old) buffer.old }
 {
     let mut own = [0u8; ROOM];
     let size = change_held(buffer, number, wanted, brought, &mut own)?;
@@ -120,11 +120,11 @@ fn edit(
     buffer: &mut [u8],
     number: u32,
     wanted: bool,
-    brought: &[[u8; 24]],
+    brought: Cards,
 ) -> Result<usize, SentBack<u32>>
-    requires { Brings number brought.now }
-    ensures value { result ≡ length_of (register_by number wanted brought.now buffer.old) }
-    ensures buffer_after { buffer.new ≡ left_by (register_by number wanted brought.now buffer.old) buffer.old }
+    requires { Brings number (in_turn brought) }
+    ensures value { result ≡ length_of (register_by number wanted (in_turn brought.entry) buffer.old) }
+    ensures buffer_after { buffer.new ≡ left_by (register_by number wanted (in_turn brought.entry) buffer.old) buffer.old }
 {
     let count = header::header_of(edits::held(buffer), header::ENOUGH)?;
     if count <= 41 {

@@ -8,7 +8,7 @@ use Rattle.refusals.specs.declared.SentBack.{SentBack}
 use Rattle.refusals.specs.Numbers.{refused_at}
 use Rattle.card.specs.declared.Answer.{Answer}
 use Rattle.farthest.specs.declared.Leaders.{Leaders}
-use Rattle.farthest.specs.Farthest.{leaders_of}
+use Rattle.farthest.specs.Farthest.{no_leaders, leaders_of}
 use Rattle.header.specs.declared.Stored.{Stored}
 use Rattle.running.specs.declared.Running.{Running}
 use Rattle.running.specs.Running.{before_cards, running_after}
@@ -24,7 +24,10 @@ use Rattle.edit_walk.proofs.Merging.{leaders_in_parts}
 
 -- ---- a part is walked
 
-module _ (s : Running) (cards : List (List ℕ)) (x : Result (Running × ℕ) (SentBack ℕ)) (e : x ≡ walk_from nothing_of (afresh s) 0 cards) where
+module _ (s : Running) (cards : List (List ℕ)) {none : Leaders} (l : none ≡ no_leaders) (x : Result (Running × ℕ) (SentBack ℕ)) (w : x ≡ walk_from nothing_of (record { leaders = none; last = s.last; place = s.place }) 0 cards) where
+  e : x ≡ walk_from nothing_of (afresh s) 0 cards
+  e = w ∙ ap (λ m. walk_from nothing_of (record { leaders = m; last = s.last; place = s.place }) 0 cards) l
+
   pub walked_part : (t : Running) (n : ℕ) → x ≡ Ok (t, n) → Ok t ≡ part_of s cards
   unfolding part_of
   walked_part t n q =

@@ -4,10 +4,11 @@
 #![tactic(auto)]
 
 ghost use Rattle.std.specs.Prelude.{◌≡◌, ◌+◌, ◌≤◌, length};
+ghost use Rattle.header.specs.InTurn.{in_turn};
 ghost use Rattle.edit_walk.specs.Parts.{merged_lead, merged, part_of, Walked};
 
 use farthest::{Leader, Leaders};
-use header::Stored;
+use header::{Cards, Stored};
 use refusals::SentBack;
 use running::Running;
 use walk::Nothing;
@@ -37,9 +38,9 @@ pub fn merge(front: Leaders, behind: Leaders) -> Leaders
 }
 
 // A part, from the number and the place behind the cards before it: the running values behind it, with the leads of its own cards.
-pub fn part(cards: &[[u8; 24]], from: Running) -> Result<Running, SentBack<u32>>
-    requires { from.place + length cards.now ≤ 2000 }
-    ensures { result ≡ part_of from cards.now }
+pub fn part(cards: Cards, from: Running) -> Result<Running, SentBack<u32>>
+    requires { from.place + length (in_turn cards) ≤ 2000 }
+    ensures { result ≡ part_of from (in_turn cards.entry) }
 {
     let afresh = Running {
         leaders: farthest::no_leaders(),
@@ -52,13 +53,13 @@ pub fn part(cards: &[[u8; 24]], from: Running) -> Result<Running, SentBack<u32>>
 // The walk through all cards of a register, held to the distances that it stores: the running values behind the cards in front of the
 // number, and the leads of those behind it.
 pub fn walk_around(
-    front: &[[u8; 24]],
-    named: &[[u8; 24]],
-    behind: &[[u8; 24]],
+    front: Cards,
+    named: Cards,
+    behind: Cards,
     stored: Option<Stored>,
 ) -> Result<(Running, Leaders), SentBack<u32>>
-    requires { length front.now + (length named.now + length behind.now) ≤ 2000 }
-    ensures { Walked stored front.now named.now behind.now result }
+    requires { length (in_turn front) + (length (in_turn named) + length (in_turn behind)) ≤ 2000 }
+    ensures { Walked stored (in_turn front.entry) (in_turn named.entry) (in_turn behind.entry) result }
 {
     let before = part(front, running::start())?;
     let with = part(named, before)?;

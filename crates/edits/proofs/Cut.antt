@@ -3,7 +3,7 @@
 -- Assumes nothing.
 use Rattle.std.specs.Prelude.{ℕ, suc, ◌+◌, ◌≤◌, ◌<◌, ◌≡◌, refl, Bool, true, false, List, [], ◌∷◌, ◌++◌, map, length, take, drop, get_or, ltb, eqb}
 use Rattle.std.proofs.Common.{arith, ◌∙◌, sym, ap, ap₂, ltb-true, ltb-false, eqb-true, lt-ltb, le-ltb, take-append-drop}
-use Rattle.std.proofs.lemmas.Bool.{eqb-false}
+use Rattle.std.proofs.lemmas.Bool.{eqb-false, ne_eqb}
 use Rattle.std.proofs.lemmas.List.{get_or-map, length-map}
 use Rattle.search.specs.Rising.{first_at_least}
 use Rattle.std.proofs.lemmas.Bool.Decides.{nat_tests}
@@ -27,6 +27,30 @@ place_unique n cards i h before here =
         let m : i < length cards = omega (arith, l, length-map cards card_number) in
         let z = get_or-map card_number cards i [] 0 m in
         let w = here m in omega (arith, z, w)
+
+-- a card of the number stands in front, one of another, or none
+module _ (n : ℕ) (cards : List (List ℕ)) where
+  pub named_empty : length cards ≡ 0 → 0 ≡ named_in n cards
+  unfolding named_in
+  named_empty h = go cards h
+    where
+      go : (cs : List (List ℕ)) → length cs ≡ 0 → 0 ≡ named_in n cs
+      go [] e = refl
+      go (first ∷ rest) e = absurd (omega (arith, e))
+
+  first_is : 0 < length cards → {card : List ℕ} → card ≡ get_or cards 0 [] → named_in n cards ≡ one_if (eqb (card_number card) n)
+  unfolding named_in
+  first_is h {card} e = go cards h e
+    where
+      go : (cs : List (List ℕ)) → 0 < length cs → card ≡ get_or cs 0 [] → named_in n cs ≡ one_if (eqb (card_number card) n)
+      go [] l q = absurd (omega (arith, l))
+      go (first ∷ rest) l q = ap (λ (c : List ℕ). one_if (eqb (card_number c) n)) (sym q)
+
+  pub named_one : {card : List ℕ} → card ≡ get_or cards 0 [] → 0 < length cards → card_number card ≡ n → 1 ≡ named_in n cards
+  named_one {card} e h q = let same : eqb (card_number card) n ≡ true = grind (arith, nat_tests, q) in sym (first_is h e ∙ ap one_if same)
+
+  pub named_other : {card : List ℕ} → card ≡ get_or cards 0 [] → 0 < length cards → (card_number card ≡ n → ⊥) → 0 ≡ named_in n cards
+  named_other {card} e h q = sym (first_is h e ∙ ap one_if (ne_eqb (card_number card) n q))
 
 -- behind a number that is not below it, no card is
 pub below_none : {last : ℕ} {cards : List (List ℕ)} (n : ℕ) → n ≤ suc last → Rising last cards → below n cards ≡ []

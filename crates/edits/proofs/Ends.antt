@@ -1,12 +1,17 @@
--- The parts of a header, one behind the other, and that its version is the one whose layout it has.
+-- The parts of a header, one behind the other, and that its version is the one whose layout it has. Cards, one behind the other.
 -- Assumes nothing.
-use Rattle.std.specs.Prelude.{ℕ, ◌≡◌, refl, [], ◌∷◌, Some}
+use Rattle.std.specs.Prelude.{ℕ, ◌+◌, ◌*◌, ◌≤◌, ◌<◌, ◌≡◌, refl, List, [], ◌∷◌, ◌++◌, length, take, get_or, Some}
+use Rattle.std.specs.List.{concat}
 use Rattle.buffer.specs.Numbers.{two_bytes, four_bytes}
 use Rattle.buffer.specs.declared.Writer.{Writer}
 use Rattle.buffer.specs.Puts.{Puts}
 use Rattle.buffer.proofs.Laws.{then}
 use Rattle.header.specs.declared.Stored.{Stored}
-use Rattle.std.proofs.Common.{subst}
+use Rattle.std.proofs.Common.{arith, add-one, ◌∙◌, ap, sym, subst, append-nil}
+use Rattle.std.proofs.lemmas.List.{take_more}
+use Rattle.std.proofs.lemmas.List.Folds.{concat-append}
+use native.Mathlib.Nat.{mul-suc}
+use Rattle.header.specs.InTurn.{Sized}
 use Rattle.header.specs.Header.{layout_of, size_of}
 use Rattle.edits.specs.Edits.{edit_version, edit_layout, header_bytes}
 
@@ -20,3 +25,23 @@ header_end {b₀} {b₁} count size d e whole version cards toxic flammable =
 pub version_laid : layout_of edit_version ≡ Some edit_layout
 unfolding layout_of
 version_laid = refl
+
+-- ---- cards of one size, as they are written: so many stand behind where the writer was
+
+module _ (size : ℕ) (cards : List (List ℕ)) (sized : Sized size cards) (w : Writer) (roomy : w.at + size * length cards ≤ length w.bytes.now) (i : ℕ) (h : i < length cards) (item : List ℕ) (there : item ≡ get_or cards i [])
+    (u : Writer) (so_far : Puts w u (concat (take i cards))) (place : u.at ≡ w.at + size * i) where
+  long : length item ≡ size
+  long = ap length there ∙ sized i h
+
+  -- the next stands behind those before it
+  more : concat (take i cards) ++ item ≡ concat (take (i + 1) cards)
+  more =
+      ap (λ (c : List ℕ). concat (take i cards) ++ c) (there ∙ sym (append-nil (get_or cards i [])))
+      ∙ sym (ap concat (take_more cards i [] h) ∙ concat-append (take i cards) (get_or cards i [] ∷ []))
+
+  module _ (v : Writer) (one : Puts u v item) where
+    pub cards_turn : Puts w v (concat (take (i + 1) cards))
+    cards_turn = subst (Puts w v) more (then so_far one)
+
+    pub cards_place : v.at ≡ w.at + size * (i + 1)
+    cards_place = rw (add-one i) (omega (arith, one.wrote.place, long, mul-suc size i))

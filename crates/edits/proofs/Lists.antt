@@ -1,86 +1,108 @@
--- Cards of 24 bytes each, as a list: as a register has them, as an edit leaves them, and read back from their own bytes; and that an edit
+-- Cards of one size, as a list: as a register has them, as an edit leaves them, and read back from their own bytes; and that an edit
 -- leaves each card there which it does not name.
 -- Assumes nothing.
-use Rattle.std.specs.Prelude.{ℕ, zero, suc, ◌+◌, ◌*◌, ◌≤◌, ◌<◌, ◌≡◌, refl, Bool, true, false, List, [], ◌∷◌, ◌++◌, ltb, length, drop, ◌↔◌, ◌⊎◌, Contains}
+use Rattle.std.specs.Prelude.{ℕ, zero, suc, ◌*◌, ◌≤◌, ◌<◌, ◌≡◌, refl, Bool, true, false, List, [], ◌∷◌, ◌++◌, ltb, eqb, length, drop, Option, Some, None, ◌↔◌, ◌⊎◌, Contains}
 use Rattle.std.specs.List.{concat}
 use Rattle.std.specs.Simd.{first_chunks}
-use Rattle.std.proofs.Common.{arith, le_refl, ◌∙◌, sym, ap, ap₂, subst, inl, inr, ⊎_elim, lt-ltb, length-take-le, length-drop, take_all, take_at, drop_at}
+use Rattle.std.proofs.Common.{arith, le_refl, ◌∙◌, sym, ap, ap₂, subst, inl, inr, ⊎_elim, lt-ltb, length-drop, take_all, take_at, drop_at}
 use Rattle.std.proofs.lemmas.List.Elements.{All-append, All-get_or, All-from_get_or, Contains-append_left, Contains-append_right, Contains-append_cases}
 use Rattle.search.specs.Laws.{clash, lt_or_ge}
-use Rattle.header.specs.Header.{count_of, layout_in, cards_in, Whole}
-use Rattle.header.proofs.Chunks.{chunks_count, chunk_at, Sized, first_bytes}
-use Rattle.edits.specs.Edits.{Edit, add, replace, withdraw, card_number, named, brings, keep_if, below, above, edited}
+use Rattle.header.specs.declared.Layout.{Layout}
+use Rattle.header.specs.Header.{version_of, count_of, first_layout, second_layout, layout_of, laid, layout_in, cards_in, unknown, bad_version, Fitting}
+use Rattle.header.specs.InTurn.{Sized}
+use Rattle.header.proofs.Chunks.{chunks_sized, first_bytes}
+use Rattle.edits.specs.Edits.{Edit, add, replace, withdraw, card_number, named, brings, keep_if, below, above, edited, edit_layout}
 
--- ---- each card has its 24 bytes
+-- ---- each card has so many bytes
 
-pub sized_none : Sized []
-sized_none i h = absurd (omega (arith, h))
+pub sized_none : (size : ℕ) → Sized size []
+sized_none size i h = absurd (omega (arith, h))
 
-pub sized_more : (card : List ℕ) (rest : List (List ℕ)) → length card ≡ 24 → Sized rest → Sized (card ∷ rest)
-sized_more card rest e s zero h = e
-sized_more card rest e s (suc i) h = s i (omega (arith, h))
+pub sized_more : (size : ℕ) (card : List ℕ) (rest : List (List ℕ)) → length card ≡ size → Sized size rest → Sized size (card ∷ rest)
+sized_more size card rest e s zero h = e
+sized_more size card rest e s (suc i) h = s i (omega (arith, h))
 
-abbrev Long : List ℕ → Type 0
-Long card = length card ≡ 24
+abbrev Long : ℕ → List ℕ → Type 0
+Long size card = length card ≡ size
 
-sized_append : (xs ys : List (List ℕ)) → Sized xs → Sized ys → Sized (xs ++ ys)
-sized_append xs ys p q i h =
-    All-get_or Long (xs ++ ys) i [] h (All-append Long xs ys (All-from_get_or Long xs [] p) (All-from_get_or Long ys [] q))
+sized_append : (size : ℕ) (xs ys : List (List ℕ)) → Sized size xs → Sized size ys → Sized size (xs ++ ys)
+sized_append size xs ys p q i h =
+    All-get_or (Long size) (xs ++ ys) i [] h (All-append (Long size) xs ys (All-from_get_or (Long size) xs [] p) (All-from_get_or (Long size) ys [] q))
 
--- the cards of a register
-chunks_sized : (n : ℕ) (bytes : List ℕ) → length bytes ≡ 24 * n → Sized (first_chunks 24 n bytes)
-chunks_sized n bytes e i h =
-    let m : i < n = omega (arith, h, chunks_count 24 n bytes) in
-    ap length (chunk_at 24 n bytes i m) ∙ length-take-le 24 (drop (24 * i) bytes) (omega (arith, length-drop (24 * i) bytes))
+-- and so it has in each part of them
+pub sized_front : (size : ℕ) (xs ys : List (List ℕ)) → Sized size (xs ++ ys) → Sized size xs
+sized_front size [] ys s = sized_none size
+sized_front size (x ∷ xs) ys s =
+    sized_more size x xs (s 0 (omega arith)) (sized_front size xs ys (λ i h. s (suc i) (omega (arith, h))))
 
-pub cards_sized : (bytes : List ℕ) → Whole bytes → Sized (cards_in bytes)
-unfolding cards_in
-cards_sized bytes w =
-    let behind : List ℕ = drop (layout_in bytes).header bytes in
-    let long : length bytes ≡ (layout_in bytes).header + 24 * count_of bytes =
-    w.register ∙ ap (λ k. (layout_in bytes).header + k * count_of bytes) w.card in
-    subst (λ size. Sized (first_chunks size (count_of bytes) behind)) (sym w.card)
-    (chunks_sized (count_of bytes) behind (omega (arith, long, length-drop (layout_in bytes).header bytes)))
+pub sized_behind : (size : ℕ) (xs ys : List (List ℕ)) → Sized size (xs ++ ys) → Sized size ys
+sized_behind size [] ys s = s
+sized_behind size (x ∷ xs) ys s = sized_behind size xs ys (λ i h. s (suc i) (omega (arith, h)))
+
+-- A register's cards are as long as those of the version that an edit makes: in every version that somebody gives.
+card_size : (v : ℕ) → unknown (layout_of v) ≡ false → (laid (layout_of v)).card ≡ edit_layout.card
+unfolding layout_of
+card_size v = go (eqb v 1) (eqb v 2)
+  where
+    versions : Bool → Bool → Option Layout
+    versions a b =
+        elim a [
+          | true ↦ Some first_layout
+          | false ↦ elim b [ true ↦ Some second_layout | false ↦ None ]
+        ]
+
+    go : (a b : Bool) → unknown (versions a b) ≡ false → (laid (versions a b)).card ≡ edit_layout.card
+    go true b e = refl
+    go false true e = refl
+    go false false e = clash (cc)
+
+pub cards_sized : (bytes : List ℕ) {room n : ℕ} → Fitting bytes room n → Sized edit_layout.card (cards_in bytes)
+unfolding cards_in bad_version layout_in
+cards_sized bytes f =
+    let l = layout_in bytes in
+    let long : length (drop l.header bytes) ≡ l.card * count_of bytes = omega (arith, f.whole.register, length-drop l.header bytes) in
+    subst (λ size. Sized size (first_chunks l.card (count_of bytes) (drop l.header bytes))) (card_size (version_of bytes) f.version)
+    (chunks_sized l.card (count_of bytes) (drop l.header bytes) long)
 
 -- and of an edited one
-sized_if : (b : Bool) (card : List ℕ) (rest : List (List ℕ)) → length card ≡ 24 → Sized rest → Sized (keep_if b card rest)
-sized_if true card rest e s = sized_more card rest e s
-sized_if false card rest e s = s
+sized_if : (size : ℕ) (b : Bool) (card : List ℕ) (rest : List (List ℕ)) → length card ≡ size → Sized size rest → Sized size (keep_if b card rest)
+sized_if size true card rest e s = sized_more size card rest e s
+sized_if size false card rest e s = s
 
-sized_below : (n : ℕ) (cards : List (List ℕ)) → Sized cards → Sized (below n cards)
+sized_below : (size n : ℕ) (cards : List (List ℕ)) → Sized size cards → Sized size (below n cards)
 unfolding below
-sized_below n [] s = sized_none
-sized_below n (card ∷ rest) s =
-    sized_if (ltb (card_number card) n) card (below n rest) (s 0 (omega arith)) (sized_below n rest (λ i h. s (suc i) (omega (arith, h))))
+sized_below size n [] s = sized_none size
+sized_below size n (card ∷ rest) s =
+    sized_if size (ltb (card_number card) n) card (below n rest) (s 0 (omega arith)) (sized_below size n rest (λ i h. s (suc i) (omega (arith, h))))
 
-sized_above : (n : ℕ) (cards : List (List ℕ)) → Sized cards → Sized (above n cards)
+sized_above : (size n : ℕ) (cards : List (List ℕ)) → Sized size cards → Sized size (above n cards)
 unfolding above
-sized_above n [] s = sized_none
-sized_above n (card ∷ rest) s =
-    sized_if (ltb n (card_number card)) card (above n rest) (s 0 (omega arith)) (sized_above n rest (λ i h. s (suc i) (omega (arith, h))))
+sized_above size n [] s = sized_none size
+sized_above size n (card ∷ rest) s =
+    sized_if size (ltb n (card_number card)) card (above n rest) (s 0 (omega arith)) (sized_above size n rest (λ i h. s (suc i) (omega (arith, h))))
 
-pub sized_edited : (e : Edit) (cards : List (List ℕ)) → Sized (brings e) → Sized cards → Sized (edited e cards)
+pub sized_edited : (size : ℕ) (e : Edit) (cards : List (List ℕ)) → Sized size (brings e) → Sized size cards → Sized size (edited e cards)
 unfolding edited
-sized_edited e cards b s =
+sized_edited size e cards b s =
     let n = named e in
-    sized_append (below n cards) (brings e ++ above n cards) (sized_below n cards s)
-    (sized_append (brings e) (above n cards) b (sized_above n cards s))
+    sized_append size (below n cards) (brings e ++ above n cards) (sized_below size n cards s)
+    (sized_append size (brings e) (above n cards) b (sized_above size n cards s))
 
 -- ---- their bytes
 
-pub bytes_length : (cards : List (List ℕ)) → Sized cards → length (concat cards) ≡ 24 * length cards
-bytes_length cards s =
+pub bytes_length : (size : ℕ) (cards : List (List ℕ)) → Sized size cards → length (concat cards) ≡ size * length cards
+bytes_length size cards s =
     ap (λ (cs : List (List ℕ)). length (concat cs)) (sym (take_all (length cards) cards (le_refl (length cards))))
-    ∙ first_bytes cards s (length cards) (le_refl (length cards))
+    ∙ first_bytes size cards s (length cards) (le_refl (length cards))
 
 -- cards read from their own bytes are the cards
-pub chunks_back : (cards : List (List ℕ)) → Sized cards → first_chunks 24 (length cards) (concat cards) ≡ cards
-chunks_back [] s = refl
-chunks_back (card ∷ rest) s =
-    let one : length card ≡ 24 = s 0 (omega arith) in
+pub chunks_back : (size : ℕ) (cards : List (List ℕ)) → Sized size cards → first_chunks size (length cards) (concat cards) ≡ cards
+chunks_back size [] s = refl
+chunks_back size (card ∷ rest) s =
+    let one : length card ≡ size = s 0 (omega arith) in
     ap₂ (λ (c : List ℕ) (cs : List (List ℕ)). c ∷ cs)
-    (take_at card (concat rest) 24 one)
-    (ap (first_chunks 24 (length rest)) (drop_at card (concat rest) 24 one) ∙ chunks_back rest (λ i h. s (suc i) (omega (arith, h))))
+    (take_at card (concat rest) size one)
+    (ap (first_chunks size (length rest)) (drop_at card (concat rest) size one) ∙ chunks_back size rest (λ i h. s (suc i) (omega (arith, h))))
 
 -- ---- cards that an edit does not name
 

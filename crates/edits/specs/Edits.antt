@@ -1,10 +1,11 @@
 -- Document 02, A9: "Cards may be added, replaced or withdrawn by number (a card handed in goes by its own) in a lent buffer that
 -- starts with a register". What an edit is, on the list of cards; what the call answers, and what it leaves in the buffer.
 -- Assumes nothing.
-use Rattle.std.specs.Prelude.{ℕ, ◌-◌, Bool, true, false, not, List, [], ◌∷◌, ◌++◌, ltb, eqb, length, take, replicate, Result, Ok, Err}
+use Rattle.std.specs.Prelude.{ℕ, ◌-◌, Bool, true, false, not, List, [], ◌∷◌, ◌++◌, map, ltb, eqb, length, take, replicate, Result, Ok, Err}
 use Rattle.std.specs.List.{concat}
 use Rattle.search.specs.Places.{either}
 use Rattle.buffer.specs.Numbers.{four_at, two_bytes, four_bytes}
+use Rattle.seasons.specs.Seasons.{grown}
 use Rattle.refusals.specs.declared.Refusal.{Refusal}
 use Rattle.refusals.specs.declared.Refusal.TheVariants as refusal
 use Rattle.refusals.specs.declared.SentBack.{SentBack}
@@ -13,11 +14,11 @@ use Rattle.farthest.specs.declared.Leaders.{Leaders}
 use Rattle.farthest.specs.Farthest.{leaders_of}
 use Rattle.header.specs.declared.Layout.{Layout}
 use Rattle.header.specs.declared.Stored.{Stored}
-use Rattle.header.specs.Header.{second_layout, size_of, cards_in, enough}
+use Rattle.header.specs.Header.{third_layout, size_of, cards_in, enough}
 use Rattle.cards.specs.Distances.{distances_of}
 use Rattle.cards.specs.Register.{Cards, answers, sent_back, cards_from, outcome_of}
 
--- an edit, with the bytes of the card that is handed in or the number of the one to withdraw
+-- an edit, with the bytes of the card that is handed in (28, as "accepted edits bring") or the number of the one to withdraw
 pub data Edit : Type 0 where
   add : List ℕ → Edit
   replace : List ℕ → Edit
@@ -64,8 +65,9 @@ above n (card ∷ rest) = keep_if (ltb n (card_number card)) card (above n rest)
 abbrev pub with_number : ℕ → List (List ℕ) → List (List ℕ) → List (List ℕ)
 with_number n brought cards = below n cards ++ (brought ++ above n cards)
 
+-- A10: "older cards gaining 1 and 366 behind their bytes": each as the version that an edit makes has it
 unfoldable pub edited : Edit → List (List ℕ) → List (List ℕ)
-edited e cards = with_number (named e) (brings e) cards
+edited e cards = map grown (with_number (named e) (brings e) cards)
 
 -- there is a card of that number
 unfoldable pub is_there : ℕ → List (List ℕ) → Bool
@@ -77,12 +79,12 @@ abbrev pub bad_presence : Bool → Bool → Bool
 bad_presence true there = not there
 bad_presence false there = there
 
--- the version that an accepted edit makes: "its first accepted edit carries it to version 2"
+-- the version that an accepted edit makes: A10, "accepted edits .. make any register version 3, of 11 + 28 × count bytes"
 abbrev pub edit_version : ℕ
-edit_version = 2
+edit_version = 3
 
 abbrev pub edit_layout : Layout
-edit_layout = second_layout
+edit_layout = third_layout
 
 -- 20: "the buffer can't hold the register as it would then be, or it would pass 2,000 cards"
 unfoldable pub bad_capacity : ℕ → ℕ → Bool
@@ -96,9 +98,9 @@ unfoldable pub header_bytes : ℕ → Stored → List ℕ
 header_bytes count d =
     four_bytes (size_of edit_layout count) ++ (edit_version ∷ (two_bytes count ++ (two_bytes d.toxic ++ two_bytes d.flammable)))
 
--- the register of these cards, with the distances of these leaders
+-- the register of these cards, with the distances of these leaders; older cards gain the days that they have without them
 unfoldable pub register_of : List (List ℕ) → Leaders → List ℕ
-register_of cards l = header_bytes (length cards) (distances_of l) ++ concat cards
+register_of cards l = header_bytes (length cards) (distances_of l) ++ concat (map grown cards)
 
 -- the register of cards that are all answered, or the first refusal and its place
 abbrev pub laid : List (List ℕ) → Cards → Result (List ℕ) (SentBack ℕ)

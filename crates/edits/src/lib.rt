@@ -6,11 +6,12 @@ ghost use Rattle.std.specs.Prelude.{◌≡◌, ◌+◌, ◌*◌, ◌≤◌, ◌+
 ghost use Rattle.std.specs.List.{concat};
 ghost use Rattle.buffer.specs.Puts.{Room, Puts};
 ghost use Rattle.header.specs.Header.{size_of};
+ghost use Rattle.header.specs.InTurn.{in_turn, Sized};
 ghost use Rattle.edits.specs.Edits.{card_number, below, above, bad_presence, bad_capacity, header_bytes, held, edit_layout};
 ghost use Rattle.edits.specs.Around.{AllPass, place_of, named_in};
 
 use buffer::Writer;
-use header::Stored;
+use header::{Cards, Stored};
 
 // The version that an edit makes.
 const VERSION: u8 = 2;
@@ -32,33 +33,39 @@ pub fn number_of(card: &[u8]) -> u32
 }
 
 // How many cards stand before the first number that is not below this one.
-fn place_of(cards: &[[u8; 24]], number: u32) -> usize
-    ensures { result ≡ place_of number cards.now }
+fn place_of(cards: Cards, number: u32) -> usize
+    ensures { result ≡ place_of number (in_turn cards.entry) }
 {
-    cards
-        .iter()
-        .position(|card| number <= number_of(card))
-        .unwrap_or(cards.len())
+    for place in 0..cards.len() {
+        if number <= number_of(cards.at(place)) {
+            return place;
+        }
+    }
+    cards.len()
 }
 
 // How many cards of a number stand in front, of cards whose numbers rise: one or none.
-#[tactic(auto, unfolding(crate::specs::Around::named_in))]
-fn named_in(cards: &[[u8; 24]], number: u32) -> usize
-    ensures { result ≡ named_in number cards.now }
+#[tactic(auto, using(crate::proofs::Cut::named_empty, crate::proofs::Cut::named_one, crate::proofs::Cut::named_other))]
+fn named_in(cards: Cards, number: u32) -> usize
+    ensures { result ≡ named_in number (in_turn cards.entry) }
 {
-    match cards {
-        [card, ..] if number_of(card) == number => 1,
-        _ => 0,
+    if cards.len() == 0 {
+        return 0;
+    }
+    if number_of(cards.at(0)) == number {
+        1
+    } else {
+        0
     }
 }
 
 // Cards around a number: those in front of it, the one that is named and those behind, which are all. Where the numbers rise they are the
 // lower ones, the one of that number if it is there, and the higher ones.
 #[tactic(auto, using(crate::proofs::Cut::place_within, crate::proofs::Cut::named_within, crate::proofs::Cut::all_parts, crate::proofs::Cut::low_is, crate::proofs::Cut::high_is))]
-pub fn around(cards: &[[u8; 24]], number: u32) -> (&[[u8; 24]], &[[u8; 24]], &[[u8; 24]])
-    ensures all { result.0.now ++ (result.1.now ++ result.2.now) ≡ cards.now }
-    ensures low { AllPass cards.now → result.0.now ≡ below number cards.now }
-    ensures high { AllPass cards.now → result.2.now ≡ above number cards.now }
+pub fn around(cards: Cards, number: u32) -> (Cards, Cards, Cards)
+    ensures all { in_turn result.0 ++ (in_turn result.1 ++ in_turn result.2) ≡ in_turn cards.entry }
+    ensures low { AllPass (in_turn cards.entry) → in_turn result.0 ≡ below number (in_turn cards.entry) }
+    ensures high { AllPass (in_turn cards.entry) → in_turn result.2 ≡ above number (in_turn cards.entry) }
 {
     let (front, rest) = cards.split_at(place_of(cards, number));
     let (named, behind) = rest.split_at(named_in(rest, number));
@@ -101,11 +108,13 @@ pub fn put_header(out: &mut Writer, count: usize, distances: Stored)
     buffer::put_two(out, distances.flammable);
 }
 
-// Cards as they stand, one behind the other.
-pub fn put_cards(out: &mut Writer, cards: &[[u8; 24]])
-    requires { Room out.old (24 * length cards.now) }
-    ensures wrote { Puts out.old out.new (concat cards.now) }
-    ensures value { out.new.at ≡ out.old.at + 24 * length cards.now }
+// Cards as they stand, one behind the other, each as long as the version that an edit makes has them.
+pub fn put_cards(out: &mut Writer, cards: Cards)
+    requires { Room out.old (edit_layout.card * length (in_turn cards)) × Sized edit_layout.card (in_turn cards) }
+    ensures wrote { Puts out.old out.new (concat (in_turn cards.entry)) }
+    ensures value { out.new.at ≡ out.old.at + edit_layout.card * length (in_turn cards.entry) }
 {
-    buffer::put_text(out, cards.as_flattened());
+    for place in 0..cards.len() {
+        buffer::put_text(out, cards.at(place));
+    }
 }

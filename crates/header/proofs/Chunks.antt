@@ -3,11 +3,12 @@
 use Rattle.std.specs.Prelude.{ℕ, zero, suc, ◌+◌, ◌-◌, ◌*◌, ◌<◌, ◌≤◌, ◌≡◌, refl, List, [], ◌∷◌, ◌++◌, length, take, drop, get_or}
 use Rattle.std.specs.List.{concat}
 use Rattle.std.specs.Simd.{first_chunks}
-use Rattle.std.proofs.Common.{arith, ◌∙◌, ap, sym, length-append, length-drop, take_all, drop-cons, take-append-drop, drop-drop, take_at, drop_at}
+use Rattle.std.proofs.Common.{arith, ◌∙◌, ap, sym, length-append, length-take-le, length-drop, take_all, drop-cons, take-append-drop, drop-drop, take_at, drop_at}
 use Rattle.std.proofs.lemmas.List.Folds.{concat-append}
-use native.Mathlib.Nat.{mul-suc}
+use native.Mathlib.Nat.{mul-suc, mul-le-mul_left}
 use native.Mathlib.Numerals.{unary_clauses}
 use Rattle.header.specs.declared.Layout.{Layout}
+use Rattle.header.specs.InTurn.{Sized}
 use Rattle.header.specs.Header.{count_of, layout_in, size_of, cards_in, Whole}
 
 -- ---- from the bytes to the cards
@@ -44,6 +45,13 @@ module _ (bytes : List ℕ) (l : Layout) (e : l ≡ layout_in bytes) (w : Whole 
       ap (first_chunks l.card (count_of bytes)) behind_header
       ∙ ap (λ (y : Layout). first_chunks y.card (count_of bytes) (drop y.header bytes)) e
 
+-- each of them has as many bytes as the list was cut into
+pub chunks_sized : (size n : ℕ) (bytes : List ℕ) → length bytes ≡ size * n → Sized size (first_chunks size n bytes)
+chunks_sized size n bytes e i h =
+    let m : i < n = omega (arith, h, chunks_count size n bytes) in
+    ap length (chunk_at size n bytes i m)
+    ∙ length-take-le size (drop (size * i) bytes) (omega (arith, e, length-drop (size * i) bytes, mul-suc size i, mul-le-mul_left size m))
+
 -- how many they are
 pub cards_counted : (bytes : List ℕ) → length (cards_in bytes) ≡ count_of bytes
 unfolding cards_in
@@ -58,10 +66,6 @@ cards_more cards i h = ap concat (drop-cons cards i [] h)
 -- the first cards and those behind them
 pub cards_cut : (cards : List (List ℕ)) (i : ℕ) → concat (take i cards) ++ concat (drop i cards) ≡ concat cards
 cards_cut cards i = sym (concat-append (take i cards) (drop i cards)) ∙ ap concat (take-append-drop i cards)
-
--- each card has so many bytes
-abbrev pub Sized : ℕ → List (List ℕ) → Type 0
-Sized size cards = (i : ℕ) → i < length cards → length (get_or cards i []) ≡ size
 
 pub first_bytes : (size : ℕ) (cards : List (List ℕ)) → Sized size cards → (i : ℕ) → i ≤ length cards → length (concat (take i cards)) ≡ size * i
 first_bytes size cards sized zero h = simp unary_clauses refl

@@ -4,13 +4,13 @@
 use Rattle.std.specs.Prelude.{ℕ, zero, suc, ◌+◌, ◌-◌, ◌*◌, ◌<◌, ◌≤◌, ◌≡◌, refl, List, [], ◌∷◌, ◌++◌, length, take, drop, get_or}
 use Rattle.std.specs.List.{concat}
 use Rattle.std.specs.Simd.{first_chunks}
-use Rattle.std.proofs.Common.{arith, ◌∙◌, ap, ap₂, sym, length-take-le, length-drop, take_all, take-append-drop, drop-drop}
+use Rattle.std.proofs.Common.{arith, ◌∙◌, ap, ap₂, sym, length-drop, take_all, take-append-drop, drop-drop}
 use Rattle.std.proofs.lemmas.List.{take-take, drop-take}
 use native.Mathlib.Nat.{mul-suc, mul-le-mul_left}
 use native.Mathlib.Numerals.{unary_clauses}
 use Rattle.header.specs.declared.several.Cards.{Cards}
 use Rattle.header.specs.InTurn.{in_turn}
-use Rattle.header.proofs.Chunks.{chunks_count, chunk_at, Sized}
+use Rattle.header.proofs.Chunks.{chunks_count, chunk_at}
 
 -- one card is its bytes
 pub one_is : (bytes : List ℕ) → first_chunks (length bytes) 1 bytes ≡ bytes ∷ []
@@ -29,14 +29,6 @@ unfolding in_turn
 turn_is c i h =
     ap (λ n. take n (drop (c.size * i) c.bytes.now)) (let z : c.size * i + c.size - c.size * i ≡ c.size = omega arith in z)
     ∙ sym (chunk_at c.size c.count c.bytes.now i h)
-
--- each has as many bytes as it is said
-pub turn_sized : (c : Cards) → Sized c.size (in_turn c)
-unfolding in_turn
-turn_sized c i h =
-    let k : i < c.count = omega (arith, h, chunks_count c.size c.count c.bytes.now) in
-    ap length (chunk_at c.size c.count c.bytes.now i k)
-    ∙ length-take-le c.size (drop (c.size * i) c.bytes.now) (omega (arith, turn_within c i k, length-drop (c.size * i) c.bytes.now))
 
 -- ---- the first of them, and those behind
 

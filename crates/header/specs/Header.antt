@@ -32,12 +32,20 @@ first_layout = record { header = 7; card = 24; stores = false }
 abbrev pub second_layout : Layout
 second_layout = record { header = 11; card = 24; stores = true }
 
+-- version 3, A10: "11 + 28 × count", and it "keeps the year's values" in its header
+abbrev pub third_layout : Layout
+third_layout = record { header = 11; card = 28; stores = true }
+
 -- the one list of versions: whatever depends on a register's version goes by it
 unfoldable pub layout_of : ℕ → Option Layout
 layout_of v =
     elim (eqb v 1) [
       | true ↦ Some first_layout
-      | false ↦ elim (eqb v 2) [ true ↦ Some second_layout | false ↦ None ]
+      | false ↦
+          elim (eqb v 2) [
+            | true ↦ Some second_layout
+            | false ↦ elim (eqb v 3) [ true ↦ Some third_layout | false ↦ None ]
+          ]
     ]
 
 -- a version that nobody gives has no layout; its register is sent back with 2
@@ -92,8 +100,8 @@ unknown None = true
 unfoldable pub bad_version : List ℕ → Bool
 bad_version bytes = unknown (layout_of (version_of bytes))
 
--- 3: "count above 2,000, or length not 7 + 24 × count"; "Version 2's length rule is 11 + 24 × count". (A wrong stored distance is 3 as
--- well, "once every card has passed": `cards/specs/Register.antt`.)
+-- 3: "count above 2,000, or length not 7 + 24 × count"; "Version 2's length rule is 11 + 24 × count"; version 3 is "of 11 + 28 × count
+-- bytes". (A wrong stored distance is 3 as well, "once every card has passed": `cards/specs/Register.antt`.)
 unfoldable pub bad_count : List ℕ → Bool
 bad_count bytes =
     either (ltb 2_000 (count_of bytes)) (not (eqb (length bytes) (size_of (layout_in bytes) (count_of bytes))))

@@ -39,10 +39,17 @@ pub const FIRST: Layout = Layout {
     stores: false,
 };
 
-// Version 2, which an edit makes.
+// Version 2, which stores the farthest distances.
 pub const SECOND: Layout = Layout {
     header: 11,
     card: 24,
+    stores: true,
+};
+
+// Version 3, whose cards have seasons, and which an edit makes.
+pub const THIRD: Layout = Layout {
+    header: 11,
+    card: 28,
     stores: true,
 };
 
@@ -54,6 +61,7 @@ pub fn layout_of(version: u8) -> Option<Layout>
     match version {
         1 => Some(FIRST),
         2 => Some(SECOND),
+        3 => Some(THIRD),
         _ => None,
     }
 }

@@ -6,15 +6,15 @@ use Rattle.refusals.specs.Numbers.{number_of}
 use Rattle.card.specs.declared.Answer.{Answer}
 use Rattle.farthest.specs.declared.Leaders.{Leaders}
 use Rattle.farthest.specs.Farthest.{leaders_of}
-use Rattle.header.specs.Header.{second_layout, size_of, enough, header_of}
+use Rattle.header.specs.Header.{third_layout, size_of, enough, header_of}
 use Rattle.cards.specs.Register.{Cards, answers, sent_back, cards_of}
 use Rattle.lines.specs.Lines.{card_line}
 use Rattle.closing.specs.Closing.{leader_line, refused_line, unless_long}
 
 -- "the longest register that can be accepted": 2,000 cards; document 02, A9: "the listing's limit follows the longest register", and
--- that is one of version 2 (48,011 bytes)
+-- that is one of version 3 (56,011 bytes)
 abbrev pub longest : ℕ
-longest = size_of second_layout 2_000
+longest = size_of third_layout 2_000
 
 -- "prints card number, route, table, pounds per minute (three decimals) and miles (two decimals)", a line for each card
 unfoldable pub card_lines : List Answer → List ℕ

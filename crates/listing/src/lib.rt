@@ -15,8 +15,8 @@ use farthest::Leaders;
 use refusals::SentBack;
 use walk::Lines;
 
-// The longest register that can be accepted: 2,000 cards behind the longer header.
-const LONGEST: usize = 48_011;
+// The longest register that can be accepted: 2,000 cards with their seasons.
+const LONGEST: usize = 56_011;
 
 // A buffer in which every listing has room: 128 bytes for a card's line, and 256 for the leaders.
 const ROOM: usize = 256_256;

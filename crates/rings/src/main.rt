@@ -4,10 +4,10 @@
 use std::io::Read;
 
 // Reads the register, lists it into the text, and prints that, or says what it could not do. The longest register that can be accepted
-// has 48,011 bytes, so one byte more tells that an input is too long; and the text has room for every listing. A listing that cannot be
+// has 56,011 bytes, so one byte more tells that an input is too long; and the text has room for every listing. A listing that cannot be
 // had whole is said to be none.
 fn answer(rt: &impl Print, reader: &mut impl Read) -> Result<(), &'static str> {
-    let mut input = [0; 48_012];
+    let mut input = [0; 56_012];
     let mut text = [0; 256_256];
     let n = input::read_all(reader, &mut input).map_err(|_| "cannot read the register")?;
     let end = listing::list(&input[..n], &mut text).ok_or("no room for the listing")?;

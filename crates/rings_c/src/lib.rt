@@ -1,16 +1,19 @@
-// The register behind a C interface: a call that answers it and one that tells the leaders after its first cards, whose result and
-// two farthest cards are words; three that edit it in its buffer, and two that read it from comma lines and write it as such, each with
-// one word beside its result; one that tells a card's likely scenario, by three words; and one that tells whether a stored answer is old.
+// The register behind a C interface: a call that answers it, one that tells the leaders after its first cards and one that tells those of
+// a day, whose result and two farthest cards are words; one that tells those of the year, with two words more for their days; three that
+// edit it in its buffer, and two that read it from comma lines and write it as such, each with one word beside its result; one that tells
+// a card's likely scenario, by three words; and one that tells whether a stored answer is old.
 #![tactic(auto)]
 
 ghost use Rattle.std.specs.Prelude.{◌≡◌, length};
 ghost use Rattle.card.specs.declared.Class.TheVariants.{Toxic, Flammable};
 ghost use Rattle.cards.specs.Register.{outcome_of, buffer_of};
 ghost use Rattle.prefix.specs.Prefix.{prefix_of};
+ghost use Rattle.by_day.specs.Day.{day_of};
+ghost use Rattle.by_day.specs.Year.{year_of};
 ghost use Rattle.edits.specs.Edits.{add, replace, withdraw, edit_of, buffer_after};
 ghost use Rattle.comma.specs.Text.{reading_of, read_into};
 ghost use Rattle.write_lines.specs.Writing.{writing_of, write_into};
-ghost use Rattle.words.specs.Words.{code_of, word_after, conversion_code, conversion_at, flag_of};
+ghost use Rattle.words.specs.Words.{code_of, word_after, leaders_in, day_after, conversion_code, conversion_at, flag_of};
 ghost use Rattle.encode.specs.Bytes.{is_old};
 ghost use Rattle.likely_scenario.specs.LikelyScenario.{likely_of};
 ghost use Rattle.likely_words.specs.LikelyWords.{likely_code, table_after, found_after, hundredths_after};
@@ -49,9 +52,39 @@ pub extern "C" fn rings_leaders_after(
     words::tell(outcome, toxic, flammable)
 }
 
+// Tells the farthest cards among those in force on a day, by the words of the calls above.
+#[unsafe(no_mangle)]
+pub extern "C" fn rings_day(register: &[u8], day: u32, toxic: &mut u64, flammable: &mut u64) -> u64
+    ensures value { result ≡ code_of (day_of register.now day) }
+    ensures toxic_after { toxic.new ≡ word_after Toxic (day_of register.now day) toxic.old }
+    ensures flammable_after { flammable.new ≡ word_after Flammable (day_of register.now day) flammable.old }
+{
+    let outcome = by_day::farthest_on(register, day);
+    words::tell(outcome, toxic, flammable)
+}
+
+// Tells the farthest cards of the year, and the earliest day on which they are in force; a day of 0 for a class without cards.
+#[unsafe(no_mangle)]
+pub extern "C" fn rings_year(
+    register: &[u8],
+    toxic: &mut u64,
+    flammable: &mut u64,
+    toxic_day: &mut u64,
+    flammable_day: &mut u64,
+) -> u64
+    ensures value { result ≡ code_of (leaders_in (year_of register.now)) }
+    ensures toxic_after { toxic.new ≡ word_after Toxic (leaders_in (year_of register.now)) toxic.old }
+    ensures flammable_after { flammable.new ≡ word_after Flammable (leaders_in (year_of register.now)) flammable.old }
+    ensures toxic_day_after { toxic_day.new ≡ day_after Toxic (year_of register.now) toxic_day.old }
+    ensures flammable_day_after { flammable_day.new ≡ day_after Flammable (year_of register.now) flammable_day.old }
+{
+    let found = by_day::year_of(register);
+    words::tell_year(found, toxic, flammable, toxic_day, flammable_day)
+}
+
 // Adds a card to the register that a lent buffer starts with.
 #[unsafe(no_mangle)]
-pub extern "C" fn rings_add(buffer: &mut [u8], card: &[u8; 24], at: &mut u64) -> u64
+pub extern "C" fn rings_add(buffer: &mut [u8], card: &[u8; 28], at: &mut u64) -> u64
     ensures value { result ≡ conversion_code (edit_of (add card.now) buffer.old) }
     ensures buffer_after { buffer.new ≡ buffer_after (add card.now) buffer.old }
     ensures at_after { at.new ≡ conversion_at (edit_of (add card.now) buffer.old) }
@@ -62,7 +95,7 @@ pub extern "C" fn rings_add(buffer: &mut [u8], card: &[u8; 24], at: &mut u64) ->
 
 // Replaces the card of the same number.
 #[unsafe(no_mangle)]
-pub extern "C" fn rings_replace(buffer: &mut [u8], card: &[u8; 24], at: &mut u64) -> u64
+pub extern "C" fn rings_replace(buffer: &mut [u8], card: &[u8; 28], at: &mut u64) -> u64
     ensures value { result ≡ conversion_code (edit_of (replace card.now) buffer.old) }
     ensures buffer_after { buffer.new ≡ buffer_after (replace card.now) buffer.old }
     ensures at_after { at.new ≡ conversion_at (edit_of (replace card.now) buffer.old) }

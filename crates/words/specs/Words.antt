@@ -8,6 +8,7 @@ use Rattle.refusals.specs.Numbers.{number_of}
 use Rattle.card.specs.declared.Class.{Class}
 use Rattle.card.specs.declared.Class.TheVariants as class
 use Rattle.farthest.specs.declared.Leaders.{Leaders}
+use Rattle.by_day.specs.declared.Year.{Year}
 
 -- "each none or a card number and a distance": 0 for none, which no card has, since its number is not zero
 unfoldable pub word_of : Option Leader → ℕ
@@ -32,6 +33,25 @@ leader_of class.Flammable leaders = leaders.flammable
 unfoldable pub word_after : Class → Result Leaders (SentBack ℕ) → ℕ → ℕ
 word_after c (Ok leaders) before = word_of (leader_of c leaders)
 word_after c (Err sent) before = before
+
+-- ---- the year, document 02, A10
+
+-- its farthest cards are told as any call's are
+abbrev pub leaders_in : Result Year (SentBack ℕ) → Result Leaders (SentBack ℕ)
+leaders_in (Ok year) = Ok year.leaders
+leaders_in (Err sent) = Err sent
+
+-- the earliest day of a class, "day 0 for a class without cards"
+abbrev pub day_of : Class → Year → ℕ
+day_of class.Toxic year = year.toxic_day
+day_of class.Flammable year = year.flammable_day
+
+-- what the call leaves in the word of a class's day
+unfoldable pub day_after : Class → Result Year (SentBack ℕ) → ℕ → ℕ
+day_after c (Ok year) before = day_of c year
+day_after c (Err sent) before = before
+
+-- ---- conversions and edits
 
 -- What a call between a text and a register, or an edit, returns: 0, or the number of its refusal. The place stands in a word of its
 -- own, since a line's number need not fit thirty-two bits.

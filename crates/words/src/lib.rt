@@ -3,8 +3,9 @@
 
 ghost use Rattle.std.specs.Prelude.{◌≡◌};
 ghost use Rattle.card.specs.declared.Class.TheVariants.{Toxic, Flammable};
-ghost use Rattle.words.specs.Words.{word_of, refusal_code, code_of, word_after, conversion_code, conversion_at};
+ghost use Rattle.words.specs.Words.{word_of, refusal_code, code_of, word_after, leaders_in, day_after, conversion_code, conversion_at};
 
+use by_day::Year;
 use farthest::{Leader, Leaders};
 use refusals::{Refusal, SentBack};
 
@@ -41,6 +42,31 @@ pub fn tell(outcome: Result<Leaders, SentBack<u32>>, toxic: &mut u64, flammable:
             0
         }
         Err(SentBack { refusal, place }) => code_of(refusal, place),
+    }
+}
+
+// The year by words: those of an outcome, and the earliest day of each class, which a refusal leaves alone as well.
+#[tactic(auto, unfolding(crate::specs::Words::day_after))]
+pub fn tell_year(
+    found: Result<Year, SentBack<u32>>,
+    toxic: &mut u64,
+    flammable: &mut u64,
+    toxic_day: &mut u64,
+    flammable_day: &mut u64,
+) -> u64
+    ensures value { result ≡ code_of (leaders_in found) }
+    ensures toxic_after { toxic.new ≡ word_after Toxic (leaders_in found) toxic.old }
+    ensures flammable_after { flammable.new ≡ word_after Flammable (leaders_in found) flammable.old }
+    ensures toxic_day_after { toxic_day.new ≡ day_after Toxic found toxic_day.old }
+    ensures flammable_day_after { flammable_day.new ≡ day_after Flammable found flammable_day.old }
+{
+    match found {
+        Ok(year) => {
+            *toxic_day = year.toxic_day as u64;
+            *flammable_day = year.flammable_day as u64;
+            tell(Ok(year.leaders), toxic, flammable)
+        }
+        Err(sent) => tell(Err(sent), toxic, flammable),
     }
 }
 
