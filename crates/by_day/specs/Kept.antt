@@ -1,12 +1,18 @@
 -- What the code keeps as it walks over the cards: the farthest of a day so far, and of the year with their days. It serves the proofs.
 -- Assumes nothing.
-use Rattle.std.specs.Prelude.{ℕ, Bool, true, false, ltb, eqb, min, Option, Some, None}
+use Rattle.std.specs.Prelude.{ℕ, Bool, true, false, ltb, eqb, min, List, Option, Some, None, Result, Ok, Err}
+use Rattle.refusals.specs.declared.Refusal.{Refusal}
+use Rattle.refusals.specs.declared.SentBack.{SentBack}
+use Rattle.refusals.specs.Numbers.{refused_at}
 use Rattle.seasons.specs.Seasons.{in_force, first_day}
 use Rattle.card.specs.declared.Class.{Class}
 use Rattle.card.specs.declared.Class.TheVariants as class
 use Rattle.card.specs.declared.Answer.{Answer}
 use Rattle.farthest.specs.declared.Leader.{Leader}
 use Rattle.farthest.specs.Farthest.{no_leaders, leaders_after}
+use Rattle.header.specs.Header.{enough, header_of}
+use Rattle.cards.specs.Register.{Cards, answers, sent_back, cards_of}
+use Rattle.tally.specs.Tally.{kept_after}
 use Rattle.by_day.specs.declared.Today.{Today}
 use Rattle.by_day.specs.declared.Year.{Year}
 
@@ -47,3 +53,17 @@ year_after y a =
       toxic_day = day_in class.Toxic a.class y.leaders.toxic y.toxic_day a;
       flammable_day = day_in class.Flammable a.class y.leaders.flammable y.flammable_day a;
     }
+
+-- ---- what a walk keeps of a register, whatever it keeps
+
+module _ {K : Type 0} (after : K → Answer → K) (from : K) where
+  abbrev pub kept_result : Cards → Result K (SentBack ℕ)
+  kept_result (answers xs) = Ok (kept_after after from xs)
+  kept_result (sent_back r place) = Err (refused_at r place)
+
+  abbrev pub kept_behind : Result ℕ Refusal → List ℕ → Result K (SentBack ℕ)
+  kept_behind (Ok count) bytes = kept_result (cards_of bytes)
+  kept_behind (Err r) bytes = Err (refused_at r 0)
+
+  unfoldable pub kept_of : List ℕ → Result K (SentBack ℕ)
+  kept_of bytes = kept_behind (header_of bytes enough) bytes

@@ -1,0 +1,3 @@
+pub mod Behind
+pub mod Days
+pub mod Walked
