@@ -2,11 +2,11 @@
 -- Assumes nothing.
 use Rattle.std.specs.Prelude.{ℕ, zero, suc, ◌≡◌, refl, Bool, true, false, List, [], ◌∷◌, Result, Ok, Err}
 use Rattle.std.proofs.Common.{arith, ◌∙◌, sym, ap, subst₂}
-use Rattle.std.proofs.lemmas.Bool.Decides.{nat_tests}
 use Rattle.search.specs.Laws.{clash}
 use Rattle.refusals.specs.declared.SentBack.{SentBack}
 use Rattle.seasons.specs.declared.Season.{Season}
 use Rattle.seasons.specs.Seasons.{bad_day, season_of, in_force}
+use Rattle.seasons.proofs.SeasonLaws.{day_within, good_day}
 use Rattle.card.specs.declared.Class.{Class}
 use Rattle.card.specs.declared.Answer.{Answer}
 use Rattle.card.specs.Answers.{answer_of}
@@ -22,7 +22,7 @@ use Rattle.ordering.proofs.Order.{cards_ordered, class_is}
 use Rattle.ordering.proofs.Ordering.{in_result}
 use Rattle.ordering.proofs.Found.{found, found_cards, from_card, to_card}
 use Rattle.by_day.specs.Day.{keep_if, in_force_on, leaders_on, unless_bad, day_of}
-use Rattle.season_claims.specs.Claim.{DayOfYear, OnEveryDay, CoveredOn, DaysOrdered}
+use Rattle.season_claims.specs.Claim.{OnEveryDay, CoveredOn, DaysOrdered}
 
 -- ---- the call
 
@@ -61,22 +61,14 @@ day_told bytes day m e q = go (bad_day day) refl (sym (day_is bytes day e) ∙ q
 
 -- ---- the days of the year
 
-good_of : (day : ℕ) → bad_day day ≡ false → DayOfYear day
-unfolding bad_day
-good_of day e = (grind (arith, nat_tests, e), grind (arith, nat_tests, e))
-
-of_good : (day : ℕ) → DayOfYear day → bad_day day ≡ false
-unfolding bad_day
-of_good day h = grind (arith, nat_tests, h)
-
 pub on_every_day : OnEveryDay
 on_every_day register day = (
   (λ a.
-      let f = day_accepted register day a.0 a.1 in (f, good_of day (day_told register day a.0 f.1 a.1).good)),
+      let f = day_accepted register day a.0 a.1 in (f, day_within day (day_told register day a.0 f.1 a.1).good)),
   (λ a.
       let e = a.0.1 in (
         leaders_on day (found register enough e).list,
-        day_is register day e ∙ ap (λ b. unless_bad b (leaders_on day (found register enough e).list)) (of_good day a.1),
+        day_is register day e ∙ ap (λ b. unless_bad b (leaders_on day (found register enough e).list)) (good_day day a.1.0 a.1.1),
       )),
 )
 

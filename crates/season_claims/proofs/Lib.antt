@@ -1,3 +1,4 @@
 pub mod Days
+pub mod Reached
 pub mod Year
 pub mod Exactly

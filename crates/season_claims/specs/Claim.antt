@@ -1,11 +1,13 @@
 -- Document 02, A10, in the paper's words: what a day's farthest cards and the year's say of the bytes of a register. The theorems are
 -- those of proofs/Days.antt and Year.antt, each under the name of its claim.
 -- Assumes nothing.
-use Rattle.std.specs.Prelude.{ℕ, ◌≤◌, ◌<◌, ◌≡◌, true, List, ◌↔◌, Result, Ok, Err}
+use Rattle.std.specs.Prelude.{ℕ, ◌≤◌, ◌<◌, ◌≡◌, true, List, ◌↔◌, Some, None, Result, Ok, Err}
 use Rattle.refusals.specs.declared.SentBack.{SentBack}
 use Rattle.buffer.specs.Numbers.{byte_at}
 use Rattle.seasons.specs.Seasons.{season_of, in_force}
 use Rattle.card.specs.declared.Class.{Class}
+use Rattle.card.specs.declared.Class.TheVariants as class
+use Rattle.farthest.specs.declared.Leader.{Leader}
 use Rattle.farthest.specs.declared.Leaders.{Leaders}
 use Rattle.farthest.specs.Farthest.{NoFarther}
 use Rattle.header.specs.Header.{count_of, stored_at, layout_in, enough}
@@ -53,12 +55,48 @@ DaysOrdered =
 
 -- ---- the year
 
--- The year's distance of a class is "exceeded on none"
+-- the day that the year tells of a class
+abbrev pub day_in : Class → Year → ℕ
+day_in class.Toxic year = year.toxic_day
+day_in class.Flammable year = year.flammable_day
+
+-- a day's farthest of a class has a distance, in hundredths of a mile
+abbrev pub FarOn : Class → List ℕ → ℕ → ℕ → Type 0
+FarOn c register day d =
+    (m : Leaders) × (lead : Leader) × (day_of register day ≡ Ok m) × (farthest_in c m ≡ Some lead) × (lead.distance.0 ≡ d)
+
+-- "The year's distance of a class with cards is reached on some day": on the day that is told, one of the year
+abbrev pub YearReached : Type 0
+YearReached =
+    (c : Class) (register : List ℕ) (year : Year) (lead : Leader)
+    → year_of register ≡ Ok year → farthest_in c year.leaders ≡ Some lead
+    → DayOfYear (day_in c year) × FarOn c register (day_in c year) lead.distance.0
+
+-- "and exceeded on none"
 abbrev pub YearExceeded : Type 0
 YearExceeded =
     (c : Class) (register : List ℕ) (year : Year) (day : ℕ) (m : Leaders)
     → year_of register ≡ Ok year → day_of register day ≡ Ok m
     → NoFarther (farthest_in c m) (farthest_in c year.leaders)
+
+-- "the earliest day whose farthest has its distance": no day before it has
+abbrev pub YearEarliest : Type 0
+YearEarliest =
+    (c : Class) (register : List ℕ) (year : Year) (lead : Leader) (day : ℕ)
+    → year_of register ≡ Ok year → farthest_in c year.leaders ≡ Some lead
+    → day < day_in c year → FarOn c register day lead.distance.0 → ⊥
+
+-- "a class without cards"
+abbrev pub NoCardOf : Class → List ℕ → Type 0
+NoCardOf c register = (i : ℕ) → i < count_of register → IsOf c register i → ⊥
+
+-- "day 0 for a class without cards", and for no other; such a class has no farthest card in the year and none on any day
+abbrev pub NoDay : Type 0
+NoDay =
+    (c : Class) (register : List ℕ) (year : Year) → year_of register ≡ Ok year
+    → ((day_in c year ≡ 0) ↔ NoCardOf c register)
+    × (NoCardOf c register
+    → (farthest_in c year.leaders ≡ None) × ((day : ℕ) (m : Leaders) → day_of register day ≡ Ok m → farthest_in c m ≡ None))
 
 -- the farthest cards in the year's result
 abbrev pub leaders_told : Result Year (SentBack ℕ) → Result Leaders (SentBack ℕ)
