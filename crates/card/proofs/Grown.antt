@@ -6,13 +6,9 @@ use Rattle.std.proofs.lemmas.List.{get_or_append_left, get_or-append-add}
 use Rattle.std.proofs.lemmas.Bool.Decides.{nat_tests}
 use Rattle.buffer.specs.Numbers.{byte_at, two_bytes}
 use Rattle.fields.specs.Layout.{fields_of}
-use Rattle.seasons.specs.Seasons.{whole_year, is_older, season_at, season_of, gained, grown}
+use Rattle.seasons.specs.Seasons.{whole_year, is_older, season_at, season_of, gained, grown, Given}
 use Rattle.card.specs.Stock.{stock_of}
 use Rattle.card.specs.Answers.{answer_of}
-
--- a card of a version that somebody gives
-abbrev pub Given : List ℕ → Type 0
-Given card = (length card ≡ 24) ⊎ (length card ≡ 28)
 
 module _ (card more : List ℕ) (h : 24 ≤ length card) where
   byte_kept : (i : ℕ) → i < 24 → byte_at (card ++ more) i ≡ byte_at card i

@@ -89,7 +89,7 @@ module _ (card : List ℕ) where
   concentration_is h =
       grind (arith, nat_tests, solution_range (fields_of card).cas (fields_of card).heat, pure_in_range (fields_of card).cas)
 
--- ---- a toxic card
+-- ---- a toxic card, of any call
 
 -- what 7 to 9 and 14 to 16 come to, all that a card's meaning asks, in front of a verdict
 abbrev pub up_to_meaning : List ℕ → Verdict → Verdict
@@ -109,9 +109,21 @@ toxic_verdict told refusing card standing further e h =
     let from = toxic_shape (fields_of card) e in
     grind (arith, refusing, listed_is card from.kind, heat_is card, concentration_is card, mismatch_is card standing from, h)
 
+-- ---- the register's call
+
 -- what the register's call makes of a meaning, with the season that the card has
 abbrev verdict_for : List ℕ → Result Meaning Refusal → Verdict
 verdict_for card m = verdict_of (answer_for (in_season m (season_of card)) (fields_of card).number)
+
+-- ---- a flammable card
+
+flammable_verdict : (card : List ℕ) → shape_of (fields_of card) ≡ Ok shape.Flammable → verdict_for card (flammable_of (fields_of card)) ≡ behind_form card
+unfolding flammable_of fields_of of_flammable is_flammable of_card first_of bad_cas beyond bad_area bad_wall bad_heat signed among
+flammable_verdict card e =
+    let b = flammable_blank (fields_of card) e in
+    grind (arith, nat_tests, flammable_shape (fields_of card) e, b, mismatch_none card 0 b.state refl)
+
+-- ---- a toxic card
 
 -- 21 comes before all that is asked of a meaning
 season_verdict : (card : List ℕ) (m : Meaning) → verdict_for card (Ok m) ≡ pick (bad_season (season_of card)) refusal.Day (verdict_of (answer_by m (season_of card) (fields_of card).number))
@@ -132,14 +144,6 @@ toxic_card_verdict card standing e =
       plan_verdict (fields_of card).number (season_of card) (plan_of made) made,
       beyond_toxic card standing (toxic_shape (fields_of card) e),
     ))
-
--- ---- a flammable card
-
-flammable_verdict : (card : List ℕ) → shape_of (fields_of card) ≡ Ok shape.Flammable → verdict_for card (flammable_of (fields_of card)) ≡ behind_form card
-unfolding flammable_of fields_of of_flammable is_flammable of_card first_of bad_cas beyond bad_area bad_wall bad_heat signed among
-flammable_verdict card e =
-    let b = flammable_blank (fields_of card) e in
-    grind (arith, nat_tests, flammable_shape (fields_of card) e, b, mismatch_none card 0 b.state refl)
 
 -- ---- any card
 

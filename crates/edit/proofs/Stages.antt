@@ -1,8 +1,9 @@
 -- One law for each return of the stages of an edit.
 -- Assumes nothing.
-use Rattle.std.specs.Prelude.{ℕ, ◌+◌, ◌-◌, ◌≤◌, ◌≡◌, refl, Bool, true, false, List, ◌++◌, length, take, drop, ltb, replicate, Option, Result, Ok, Err}
+use Rattle.std.specs.Prelude.{ℕ, ◌+◌, ◌-◌, ◌≤◌, ◌≡◌, refl, Bool, true, false, List, ◌++◌, map, length, take, drop, ltb, replicate, Option, Result, Ok, Err}
 use Rattle.std.specs.List.{concat}
 use Rattle.std.proofs.Common.{arith, ◌∙◌, sym, ap, ap₂, subst, length-append, take_at}
+use Rattle.std.proofs.lemmas.List.{map-append}
 use Rattle.std.proofs.lemmas.List.Folds.{concat-append}
 use Rattle.std.proofs.lemmas.List.Edits.{sets}
 use Rattle.std.proofs.lemmas.Bool.Decides.{nat_tests}
@@ -18,6 +19,7 @@ use Rattle.buffer.specs.Puts.{Puts}
 use Rattle.buffer.proofs.Laws.{then, written_first}
 use Rattle.header.specs.declared.Stored.{Stored}
 use Rattle.header.specs.Header.{count_of, cards_in, stored_in, header_of, enough, Whole, Fitting, size_of}
+use Rattle.seasons.specs.Seasons.{grown, Given}
 use Rattle.header.proofs.Chunks.{cards_counted}
 use Rattle.header.proofs.Ends.{header_fitting}
 use Rattle.running.specs.declared.Running.{Running}
@@ -25,8 +27,9 @@ use Rattle.cards.specs.Distances.{distances_of}
 use Rattle.cards.specs.Register.{Cards, answers, sent_back, cards_from, result_of, settled, outcome_of}
 use Rattle.cards.proofs.Laws.{header_refused, header_good, good_header, good_count}
 use Rattle.edits.specs.Edits.{below, above, is_there, with_number, bad_presence, bad_capacity, header_bytes, register_of, laid, register_with, held, unless_bad, changed, after_old, register_by, length_of, left_by, edit_layout}
-use Rattle.edits.specs.Around.{AllPass, Brings}
+use Rattle.edits.specs.Around.{AllPass, AllGiven, Brings}
 use Rattle.edits.proofs.Cut.{there_is}
+use Rattle.edits.proofs.Lists.{each_front, each_behind, cards_given}
 use Rattle.edit_walk.specs.Parts.{merged, part_of, Accepted, Walked}
 use Rattle.edit_walk.proofs.Parts.{middle_place, middle_stops, all_on}
 use Rattle.edit_walk.proofs.Behind.{behind_any}
@@ -104,21 +107,28 @@ module _ (front brought behind : List (List ℕ)) (t : Running) (l : Leaders) (k
         all_on front brought behind t k.0 u (sym e ∙ q) l (k.1 u (sym e ∙ q))
         ∙ ap Ok (sym (j ∙ ap (merged t.leaders) i))
 
+-- cards as they are laid, each as version 3 has it
+abbrev laid_text : List (List ℕ) → List ℕ
+laid_text cards = concat (map grown cards)
+
+laid_both : (xs ys : List (List ℕ)) → laid_text xs ++ laid_text ys ≡ laid_text (xs ++ ys)
+laid_both xs ys = sym (ap concat (map-append grown xs ys) ∙ concat-append (map grown xs) (map grown ys))
+
 -- the header and three lists of cards, one behind the other
 module _ (front brought behind : List (List ℕ)) (l : Leaders) (q : result_of (cards_from 0 0 (front ++ (brought ++ behind))) ≡ Ok l) (d : Stored) (k : d ≡ distances_of l) {w₀ w₁ w₂ w₃ w₄ : Writer} (start : w₀.at ≡ 0)
-    (header : Puts w₀ w₁ (header_bytes (length front + (length brought + length behind)) d)) (first : Puts w₁ w₂ (concat front)) (second : Puts w₂ w₃ (concat brought)) (third : Puts w₃ w₄ (concat behind)) where
+    (count : ℕ) (n : count ≡ length front + (length brought + length behind)) (header : Puts w₀ w₁ (header_bytes count d)) (first : Puts w₁ w₂ (laid_text front)) (second : Puts w₂ w₃ (laid_text brought)) (third : Puts w₃ w₄ (laid_text behind)) where
   abbrev all : List (List ℕ)
   all = front ++ (brought ++ behind)
 
-  cards_text : concat front ++ (concat brought ++ concat behind) ≡ concat all
-  cards_text = sym (concat-append front (brought ++ behind) ∙ ap (λ text. concat front ++ text) (concat-append brought behind))
+  cards_text : laid_text front ++ (laid_text brought ++ laid_text behind) ≡ laid_text all
+  cards_text = ap (λ text. laid_text front ++ text) (laid_both brought behind) ∙ laid_both front (brought ++ behind)
 
-  counted : length front + (length brought + length behind) ≡ length all
-  counted = omega (arith, length-append front (brought ++ behind), length-append brought behind)
+  counted : count ≡ length all
+  counted = omega (arith, n, length-append front (brought ++ behind), length-append brought behind)
 
-  text_is : header_bytes (length front + (length brought + length behind)) d ++ (concat front ++ (concat brought ++ concat behind)) ≡ register_of all l
+  text_is : header_bytes count d ++ (laid_text front ++ (laid_text brought ++ laid_text behind)) ≡ register_of all l
   unfolding register_of
-  text_is = ap₂ (λ n s. header_bytes n s ++ (concat front ++ (concat brought ++ concat behind))) counted k ∙ ap (λ text. header_bytes (length all) (distances_of l) ++ text) cards_text
+  text_is = ap₂ (λ n s. header_bytes n s ++ (laid_text front ++ (laid_text brought ++ laid_text behind))) counted k ∙ ap (λ text. header_bytes (length all) (distances_of l) ++ text) cards_text
 
   put : Puts w₀ w₄ (register_of all l)
   put = subst (Puts w₀ w₄) text_is (then header (then first (then second third)))
@@ -143,6 +153,12 @@ module _ (front brought behind : List (List ℕ)) (l : Leaders) (q : result_of (
       )
 
 -- ---- 19 and 20
+
+-- they are looked for by how many cards there are
+pub counted_way : (wanted : Bool) (room : ℕ) (front brought behind cards : List (List ℕ)) (x : Result Unit (SentBack ℕ)) {kept all count : ℕ} → kept ≡ length front + length behind → all ≡ length cards → count ≡ length front + (length brought + length behind)
+    → x ≡ way_of (bad_presence wanted (ltb kept all)) (bad_capacity room count) → x ≡ way_of (bad_presence wanted (ltb (length front + length behind) (length cards))) (bad_capacity room (length front + (length brought + length behind)))
+counted_way wanted room front brought behind cards x k a c e =
+    e ∙ ap₂ way_of (ap₂ (λ m n. bad_presence wanted (ltb m n)) k a) (ap (bad_capacity room) c)
 
 abbrev after_way : Result Unit (SentBack ℕ) → Result (List ℕ) (SentBack ℕ) → Result (List ℕ) (SentBack ℕ)
 after_way (Ok u) further = further
@@ -173,6 +189,17 @@ module _ (n : ℕ) (wanted : Bool) (brought cards : List (List ℕ)) (room : ℕ
       go false false h = refl
 
 -- ---- the cards around the number
+
+-- each part of them has cards of versions that somebody gives
+module _ (front named behind cards : List (List ℕ)) (a : front ++ (named ++ behind) ≡ cards) (g : AllGiven cards) where
+  parts : AllGiven (front ++ (named ++ behind))
+  parts = subst AllGiven (sym a) g
+
+  pub front_given : AllGiven front
+  front_given = each_front Given front (named ++ behind) parts
+
+  pub behind_given : AllGiven behind
+  behind_given = each_behind Given named behind (each_behind Given front (named ++ behind) parts)
 
 module _ (s : Option Stored) (n : ℕ) (wanted : Bool) (brought cards : List (List ℕ)) (room : ℕ) (front named behind : List (List ℕ)) (a : front ++ (named ++ behind) ≡ cards) where
   outcome : result_of (settled s (cards_from 0 0 (front ++ (named ++ behind)))) ≡ result_of (settled s (cards_from 0 0 cards))
@@ -232,6 +259,9 @@ module _ (n : ℕ) (wanted : Bool) (brought : List (List ℕ)) (buffer : List �
     held_whole = good_header register enough (header_of register enough) refl (count_of register) good
 
     module _ (cards : List (List ℕ)) (c : cards ≡ cards_in register) where
+      pub held_given : AllGiven cards
+      held_given = subst AllGiven (sym c) (cards_given register (header_fitting register enough (count_of register) good))
+
       pub held_few : length cards ≤ 2_000
       held_few = good_count register enough (header_of register enough) refl (count_of register) good cards c
 

@@ -4,13 +4,14 @@
 
 ghost use Rattle.std.specs.Prelude.{◌≡◌, ◌+◌, ◌*◌, ◌≤◌, ◌++◌, length};
 ghost use Rattle.header.specs.Header.{size_of};
+ghost use Rattle.header.specs.InTurn.{in_turn};
 ghost use Rattle.edits.specs.Edits.{add, replace, withdraw, edit_layout, bad_presence, bad_capacity, register_with, register_by, held, length_of, edit_of, left_by, buffer_after};
-ghost use Rattle.edits.specs.Around.{Brings};
+ghost use Rattle.edits.specs.Around.{Brings, AllGiven};
 ghost use Rattle.edit.specs.Laid.{Ready, change_of, way_of, Known, LaidIn};
 
 use buffer::Writer;
 use farthest::Leaders;
-use header::Stored;
+use header::{Cards, Stored};
 use refusals::{Refusal, SentBack};
 use running::Running;
 
@@ -39,6 +40,7 @@ fn lay(
 ) -> Result<usize, SentBack<u32>>
     requires few { length (in_turn front) + (length (in_turn brought) + length (in_turn behind)) ≤ 2000 }
     requires roomy { size_of edit_layout (length (in_turn front) + (length (in_turn brought) + length (in_turn behind))) ≤ length own.old }
+    requires given { AllGiven (in_turn front) × AllGiven (in_turn brought) × AllGiven (in_turn behind) }
     requires known { Known (in_turn front) (in_turn brought) (in_turn behind) before after }
     ensures value { result ≡ length_of (register_with ((in_turn front.entry) ++ ((in_turn brought.entry) ++ (in_turn behind.entry)))) }
     ensures laid { LaidIn own.new (size_of edit_layout (length (in_turn front.entry) + (length (in_turn brought.entry) + length (in_turn behind.entry)))) (register_with ((in_turn front.entry) ++ ((in_turn brought.entry) ++ (in_turn behind.entry)))) }
@@ -65,7 +67,7 @@ fn change(
     room: usize,
     own: &mut [u8],
 ) -> Result<usize, SentBack<u32>>
-    requires { (length (in_turn cards) ≤ 2000) × (size_of edit_layout (length (in_turn cards) + 1) ≤ length own.old) × Brings number (in_turn brought) }
+    requires { (length (in_turn cards) ≤ 2000) × (size_of edit_layout (length (in_turn cards) + 1) ≤ length own.old) × Brings number (in_turn brought) × AllGiven (in_turn cards) × AllGiven (in_turn brought) }
     ensures value { result ≡ length_of (change_of stored number wanted (in_turn brought.entry) (in_turn cards.entry) room) }
     ensures laid { LaidIn own.new room (change_of stored number wanted (in_turn brought.entry) (in_turn cards.entry) room) }
 {
@@ -85,7 +87,7 @@ fn change_held(
     brought: Cards,
     own: &mut [u8],
 ) -> Result<usize, SentBack<u32>>
-    requires { Ready (held buffer.now) (length own.old) × Brings number (in_turn brought) }
+    requires { Ready (held buffer.now) (length own.old) × Brings number (in_turn brought) × AllGiven (in_turn brought) }
     ensures value { result ≡ length_of (register_by number wanted (in_turn brought.entry) buffer.now) }
     ensures laid { LaidIn own.new (length buffer.now) (register_by number wanted (in_turn brought.entry) buffer.now) }
 {
@@ -103,7 +105,7 @@ fn edit_by<const ROOM: usize>(
     wanted: bool,
     brought: Cards,
 ) -> Result<usize, SentBack<u32>>
-    requires { (ROOM ≤ 48_035) × Ready (held buffer.old) ROOM × Brings number (in_turn brought) }
+    requires { (ROOM ≤ 56_039) × Ready (held buffer.old) ROOM × Brings number (in_turn brought) × AllGiven (in_turn brought) }
     ensures value { result ≡ length_of (register_by number wanted (in_turn brought.entry) buffer.old) }
     ensures buffer_after { buffer.new ≡ left_by (register_by number wanted (in_turn brought.entry) buffer.old) buffer.old }
 {
@@ -122,31 +124,31 @@ fn edit(
     wanted: bool,
     brought: Cards,
 ) -> Result<usize, SentBack<u32>>
-    requires { Brings number (in_turn brought) }
+    requires { Brings number (in_turn brought) × AllGiven (in_turn brought) }
     ensures value { result ≡ length_of (register_by number wanted (in_turn brought.entry) buffer.old) }
     ensures buffer_after { buffer.new ≡ left_by (register_by number wanted (in_turn brought.entry) buffer.old) buffer.old }
 {
     let count = header::header_of(edits::held(buffer), header::ENOUGH)?;
-    if count <= 41 {
+    if count <= 35 {
         return edit_by::<1_024>(buffer, number, wanted, brought);
     }
-    edit_by::<48_035>(buffer, number, wanted, brought)
+    edit_by::<56_039>(buffer, number, wanted, brought)
 }
 
 // Adds a card, at its place by number.
-pub fn add(buffer: &mut [u8], card: &[u8; 24]) -> Result<usize, SentBack<u32>>
+pub fn add(buffer: &mut [u8], card: &[u8; 28]) -> Result<usize, SentBack<u32>>
     ensures value { result ≡ edit_of (add card.now) buffer.old }
     ensures buffer_after { buffer.new ≡ buffer_after (add card.now) buffer.old }
 {
-    edit(buffer, edits::number_of(card), false, &[*card])
+    edit(buffer, edits::number_of(card), false, Cards::one(card))
 }
 
 // Replaces the card of the same number.
-pub fn replace(buffer: &mut [u8], card: &[u8; 24]) -> Result<usize, SentBack<u32>>
+pub fn replace(buffer: &mut [u8], card: &[u8; 28]) -> Result<usize, SentBack<u32>>
     ensures value { result ≡ edit_of (replace card.now) buffer.old }
     ensures buffer_after { buffer.new ≡ buffer_after (replace card.now) buffer.old }
 {
-    edit(buffer, edits::number_of(card), true, &[*card])
+    edit(buffer, edits::number_of(card), true, Cards::one(card))
 }
 
 // Withdraws the card of a number.
@@ -154,5 +156,5 @@ pub fn withdraw(buffer: &mut [u8], number: u32) -> Result<usize, SentBack<u32>>
     ensures value { result ≡ edit_of (withdraw number) buffer.old }
     ensures buffer_after { buffer.new ≡ buffer_after (withdraw number) buffer.old }
 {
-    edit(buffer, number, true, &[])
+    edit(buffer, number, true, Cards::none())
 }

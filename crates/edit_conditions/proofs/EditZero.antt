@@ -9,6 +9,7 @@ use Rattle.refusals.specs.Numbers.{refused_at}
 use Rattle.fields.specs.Layout.{fields_of}
 use Rattle.meaning.specs.Reading.{bad_number, meaning_of}
 use Rattle.card.specs.declared.Answer.{Answer}
+use Rattle.card.specs.Stock.{stock_of}
 use Rattle.card.specs.Answers.{answer_of}
 use Rattle.header.specs.Header.{cards_in, enough}
 use Rattle.conditions.specs.Conditions.{of_card, conditions_at}
@@ -54,7 +55,7 @@ number_zero card cards behind h =
 
 -- a card of number 0 is refused for it
 zero_refused : (card : List ℕ) (last : ℕ) → card_number card ≡ 0 → answer_of card last ≡ Err refusal.Number
-unfolding answer_of meaning_of bad_number fields_of
+unfolding answer_of stock_of meaning_of bad_number fields_of
 zero_refused card last z = grind (arith, nat_tests, z)
 
 pub zero_missing : ZeroMissing

@@ -24,12 +24,12 @@ EditedExactly =
 
 -- the numbers of the new card's lines, where there is one
 abbrev pub brought_numbers : Edit → List ℕ
-brought_numbers (add card) = 5 ∷ 6 ∷ 7 ∷ 8 ∷ 9 ∷ 14 ∷ 15 ∷ 16 ∷ 10 ∷ 11 ∷ []
-brought_numbers (replace card) = 5 ∷ 6 ∷ 7 ∷ 8 ∷ 9 ∷ 14 ∷ 15 ∷ 16 ∷ 10 ∷ 11 ∷ []
+brought_numbers (add card) = 5 ∷ 6 ∷ 7 ∷ 8 ∷ 9 ∷ 14 ∷ 15 ∷ 16 ∷ 21 ∷ 10 ∷ 11 ∷ []
+brought_numbers (replace card) = 5 ∷ 6 ∷ 7 ∷ 8 ∷ 9 ∷ 14 ∷ 15 ∷ 16 ∷ 21 ∷ 10 ∷ 11 ∷ []
 brought_numbers (withdraw n) = []
 
 -- the lines stand in this order: the old register's, 19 and 20, the new card's
-pub edit_numbered : (e : Edit) (buffer : List ℕ) (place : ℕ) → map number_in (edit_at e buffer place) ≡ 1 ∷ 2 ∷ 3 ∷ 4 ∷ 5 ∷ 6 ∷ 7 ∷ 8 ∷ 9 ∷ 14 ∷ 15 ∷ 16 ∷ 10 ∷ 11 ∷ 3 ∷ 19 ∷ 20 ∷ brought_numbers e
+pub edit_numbered : (e : Edit) (buffer : List ℕ) (place : ℕ) → map number_in (edit_at e buffer place) ≡ 1 ∷ 2 ∷ 3 ∷ 4 ∷ 5 ∷ 6 ∷ 7 ∷ 8 ∷ 9 ∷ 14 ∷ 15 ∷ 16 ∷ 21 ∷ 10 ∷ 11 ∷ 3 ∷ 19 ∷ 20 ∷ brought_numbers e
 unfolding edit_at edit_lines of_edit of_brought conditions_at only of_register of_card at_last
 edit_numbered (add card) buffer place = refl
 edit_numbered (replace card) buffer place = refl

@@ -1,5 +1,6 @@
 pub mod Rising
 pub mod Cut
+pub mod Growing
 pub mod Lists
 mod Ends
 pub mod Brought

@@ -1,92 +1,95 @@
 -- Cards of one size, as a list: as a register has them, as an edit leaves them, and read back from their own bytes; and that an edit
 -- leaves each card there which it does not name.
 -- Assumes nothing.
-use Rattle.std.specs.Prelude.{ℕ, zero, suc, ◌*◌, ◌≤◌, ◌<◌, ◌≡◌, refl, Bool, true, false, List, [], ◌∷◌, ◌++◌, ltb, eqb, length, drop, Option, Some, None, ◌↔◌, ◌⊎◌, Contains}
+use Rattle.std.specs.Prelude.{ℕ, zero, suc, ◌*◌, ◌≤◌, ◌<◌, ◌≡◌, refl, Bool, true, false, List, [], ◌∷◌, ◌++◌, ltb, eqb, length, drop, get_or, Option, Some, None, ◌↔◌, ◌⊎◌, Contains}
 use Rattle.std.specs.List.{concat}
 use Rattle.std.specs.Simd.{first_chunks}
-use Rattle.std.proofs.Common.{arith, le_refl, ◌∙◌, sym, ap, ap₂, subst, inl, inr, ⊎_elim, lt-ltb, length-drop, take_all, take_at, drop_at}
+use Rattle.std.proofs.Common.{arith, le_refl, ◌∙◌, sym, ap, ap₂, inl, inr, ⊎_elim, lt-ltb, length-drop, take_all, take_at, drop_at}
 use Rattle.std.proofs.lemmas.List.Elements.{All-append, All-get_or, All-from_get_or, Contains-append_left, Contains-append_right, Contains-append_cases}
 use Rattle.search.specs.Laws.{clash, lt_or_ge}
 use Rattle.header.specs.declared.Layout.{Layout}
-use Rattle.header.specs.Header.{version_of, count_of, first_layout, second_layout, layout_of, laid, layout_in, cards_in, unknown, bad_version, Fitting}
+use Rattle.header.specs.Header.{version_of, count_of, first_layout, second_layout, third_layout, layout_of, laid, layout_in, cards_in, unknown, bad_version, Fitting}
 use Rattle.header.specs.InTurn.{Sized}
+use Rattle.seasons.specs.Seasons.{grown, Given}
 use Rattle.header.proofs.Chunks.{chunks_sized, first_bytes}
-use Rattle.edits.specs.Edits.{Edit, add, replace, withdraw, card_number, named, brings, keep_if, below, above, edited, edit_layout}
+use Rattle.edits.specs.Edits.{Edit, add, replace, withdraw, card_number, named, brings, keep_if, below, above, with_number, edited}
+use Rattle.edits.specs.Around.{AllGiven}
+use Rattle.edits.proofs.Growing.{grown_each, grown_back, grown_number, each_there}
 
--- ---- each card has so many bytes
+-- ---- something that holds of each card
 
-pub sized_none : (size : ℕ) → Sized size []
-sized_none size i h = absurd (omega (arith, h))
+module _ (P : List ℕ → Type 0) where
+  abbrev pub Each : List (List ℕ) → Type 0
+  Each cards = (i : ℕ) → i < length cards → P (get_or cards i [])
 
-pub sized_more : (size : ℕ) (card : List ℕ) (rest : List (List ℕ)) → length card ≡ size → Sized size rest → Sized size (card ∷ rest)
-sized_more size card rest e s zero h = e
-sized_more size card rest e s (suc i) h = s i (omega (arith, h))
+  pub each_none : Each []
+  each_none i h = absurd (omega (arith, h))
 
-abbrev Long : ℕ → List ℕ → Type 0
-Long size card = length card ≡ size
+  pub each_more : (card : List ℕ) (rest : List (List ℕ)) → P card → Each rest → Each (card ∷ rest)
+  each_more card rest e s zero h = e
+  each_more card rest e s (suc i) h = s i (omega (arith, h))
 
-sized_append : (size : ℕ) (xs ys : List (List ℕ)) → Sized size xs → Sized size ys → Sized size (xs ++ ys)
-sized_append size xs ys p q i h =
-    All-get_or (Long size) (xs ++ ys) i [] h (All-append (Long size) xs ys (All-from_get_or (Long size) xs [] p) (All-from_get_or (Long size) ys [] q))
+  each_append : (xs ys : List (List ℕ)) → Each xs → Each ys → Each (xs ++ ys)
+  each_append xs ys p q i h = All-get_or P (xs ++ ys) i [] h (All-append P xs ys (All-from_get_or P xs [] p) (All-from_get_or P ys [] q))
 
--- and so it has in each part of them
-pub sized_front : (size : ℕ) (xs ys : List (List ℕ)) → Sized size (xs ++ ys) → Sized size xs
-sized_front size [] ys s = sized_none size
-sized_front size (x ∷ xs) ys s =
-    sized_more size x xs (s 0 (omega arith)) (sized_front size xs ys (λ i h. s (suc i) (omega (arith, h))))
+  -- and so it does in each part of them
+  pub each_front : (xs ys : List (List ℕ)) → Each (xs ++ ys) → Each xs
+  each_front [] ys s = each_none
+  each_front (x ∷ xs) ys s = each_more x xs (s 0 (omega arith)) (each_front xs ys (λ i h. s (suc i) (omega (arith, h))))
 
-pub sized_behind : (size : ℕ) (xs ys : List (List ℕ)) → Sized size (xs ++ ys) → Sized size ys
-sized_behind size [] ys s = s
-sized_behind size (x ∷ xs) ys s = sized_behind size xs ys (λ i h. s (suc i) (omega (arith, h)))
+  pub each_behind : (xs ys : List (List ℕ)) → Each (xs ++ ys) → Each ys
+  each_behind [] ys s = s
+  each_behind (x ∷ xs) ys s = each_behind xs ys (λ i h. s (suc i) (omega (arith, h)))
 
--- A register's cards are as long as those of the version that an edit makes: in every version that somebody gives.
-card_size : (v : ℕ) → unknown (layout_of v) ≡ false → (laid (layout_of v)).card ≡ edit_layout.card
+  each_if : (b : Bool) (card : List ℕ) (rest : List (List ℕ)) → P card → Each rest → Each (keep_if b card rest)
+  each_if true card rest e s = each_more card rest e s
+  each_if false card rest e s = s
+
+  pub each_below : (n : ℕ) (cards : List (List ℕ)) → Each cards → Each (below n cards)
+  unfolding below
+  each_below n [] s = each_none
+  each_below n (card ∷ rest) s =
+      each_if (ltb (card_number card) n) card (below n rest) (s 0 (omega arith)) (each_below n rest (λ i h. s (suc i) (omega (arith, h))))
+
+  pub each_above : (n : ℕ) (cards : List (List ℕ)) → Each cards → Each (above n cards)
+  unfolding above
+  each_above n [] s = each_none
+  each_above n (card ∷ rest) s =
+      each_if (ltb n (card_number card)) card (above n rest) (s 0 (omega arith)) (each_above n rest (λ i h. s (suc i) (omega (arith, h))))
+
+  -- in the cards as an edit leaves them, before they gain anything
+  pub each_with : (e : Edit) (cards : List (List ℕ)) → Each (brings e) → Each cards → Each (with_number (named e) (brings e) cards)
+  each_with e cards b s =
+      let n = named e in
+      each_append (below n cards) (brings e ++ above n cards) (each_below n cards s)
+      (each_append (brings e) (above n cards) b (each_above n cards s))
+
+-- ---- a register's cards are of a version that somebody gives
+
+card_size : (v : ℕ) → unknown (layout_of v) ≡ false → ((laid (layout_of v)).card ≡ 24) ⊎ ((laid (layout_of v)).card ≡ 28)
 unfolding layout_of
-card_size v = go (eqb v 1) (eqb v 2)
+card_size v = go (eqb v 1) (eqb v 2) (eqb v 3)
   where
-    versions : Bool → Bool → Option Layout
-    versions a b =
+    versions : Bool → Bool → Bool → Option Layout
+    versions a b c =
         elim a [
           | true ↦ Some first_layout
-          | false ↦ elim b [ true ↦ Some second_layout | false ↦ None ]
+          | false ↦ elim b [ true ↦ Some second_layout | false ↦ elim c [ true ↦ Some third_layout | false ↦ None ] ]
         ]
 
-    go : (a b : Bool) → unknown (versions a b) ≡ false → (laid (versions a b)).card ≡ edit_layout.card
-    go true b e = refl
-    go false true e = refl
-    go false false e = clash (cc)
+    go : (a b c : Bool) → unknown (versions a b c) ≡ false → ((laid (versions a b c)).card ≡ 24) ⊎ ((laid (versions a b c)).card ≡ 28)
+    go true b c e = inl refl
+    go false true c e = inl refl
+    go false false true e = inr refl
+    go false false false e = clash (cc)
 
-pub cards_sized : (bytes : List ℕ) {room n : ℕ} → Fitting bytes room n → Sized edit_layout.card (cards_in bytes)
+pub cards_given : (bytes : List ℕ) {room n : ℕ} → Fitting bytes room n → AllGiven (cards_in bytes)
 unfolding cards_in bad_version layout_in
-cards_sized bytes f =
+cards_given bytes f i h =
     let l = layout_in bytes in
     let long : length (drop l.header bytes) ≡ l.card * count_of bytes = omega (arith, f.whole.register, length-drop l.header bytes) in
-    subst (λ size. Sized size (first_chunks l.card (count_of bytes) (drop l.header bytes))) (card_size (version_of bytes) f.version)
-    (chunks_sized l.card (count_of bytes) (drop l.header bytes) long)
-
--- and of an edited one
-sized_if : (size : ℕ) (b : Bool) (card : List ℕ) (rest : List (List ℕ)) → length card ≡ size → Sized size rest → Sized size (keep_if b card rest)
-sized_if size true card rest e s = sized_more size card rest e s
-sized_if size false card rest e s = s
-
-sized_below : (size n : ℕ) (cards : List (List ℕ)) → Sized size cards → Sized size (below n cards)
-unfolding below
-sized_below size n [] s = sized_none size
-sized_below size n (card ∷ rest) s =
-    sized_if size (ltb (card_number card) n) card (below n rest) (s 0 (omega arith)) (sized_below size n rest (λ i h. s (suc i) (omega (arith, h))))
-
-sized_above : (size n : ℕ) (cards : List (List ℕ)) → Sized size cards → Sized size (above n cards)
-unfolding above
-sized_above size n [] s = sized_none size
-sized_above size n (card ∷ rest) s =
-    sized_if size (ltb n (card_number card)) card (above n rest) (s 0 (omega arith)) (sized_above size n rest (λ i h. s (suc i) (omega (arith, h))))
-
-pub sized_edited : (size : ℕ) (e : Edit) (cards : List (List ℕ)) → Sized size (brings e) → Sized size cards → Sized size (edited e cards)
-unfolding edited
-sized_edited size e cards b s =
-    let n = named e in
-    sized_append size (below n cards) (brings e ++ above n cards) (sized_below size n cards s)
-    (sized_append size (brings e) (above n cards) b (sized_above size n cards s))
+    let sized = chunks_sized l.card (count_of bytes) (drop l.header bytes) long i h in
+    ⊎_elim (λ (e : l.card ≡ 24). inl (sized ∙ e)) (λ (e : l.card ≡ 28). inr (sized ∙ e)) (card_size (version_of bytes) f.version)
 
 -- ---- their bytes
 
@@ -161,10 +164,9 @@ module _ {card : List ℕ} where
   brought_named (replace c) (suc k, h, e) = absurd (omega (arith, h))
   brought_named (withdraw n) (k, h, e) = absurd (omega (arith, h))
 
-  -- a card of another number than the one that is named is there afterwards where it was there before
-  pub unnamed : (e : Edit) (cards : List (List ℕ)) → (card_number card ≡ named e → ⊥) → Contains cards card ↔ Contains (edited e cards) card
-  unfolding edited
-  unnamed e cards other = (
+  -- a card of another number than the one that is named is among the cards as they would then be exactly where it was there before
+  unnamed_with : (e : Edit) (cards : List (List ℕ)) → (card_number card ≡ named e → ⊥) → Contains cards card ↔ Contains (with_number (named e) (brings e) cards) card
+  unnamed_with e cards other = (
     (λ m.
         ⊎_elim
         (λ (h : card_number card < named e). Contains-append_left (below (named e) cards) (brings e ++ above (named e) cards) card (to_below (named e) cards h m))
@@ -180,3 +182,17 @@ module _ {card : List ℕ} where
     where
       higher : named e ≤ card_number card → named e < card_number card
       higher h = omega arith
+
+-- so it stays, as version 3 has it, and none but these has come
+pub unnamed_stays : (card : List ℕ) (e : Edit) (cards : List (List ℕ)) → (card_number card ≡ named e → ⊥) → Contains cards card → Contains (edited e cards) (grown card)
+unfolding edited
+unnamed_stays card e cards other m = grown_each (with_number (named e) (brings e) cards) card ((unnamed_with e cards other).0 m)
+
+pub unnamed_was : (card : List ℕ) (e : Edit) (cards : List (List ℕ)) → AllGiven (brings e) → AllGiven cards → (card_number card ≡ named e → ⊥) → Contains (edited e cards) card → (c : List ℕ) × Contains cards c × (grown c ≡ card)
+unfolding edited
+unnamed_was card e cards brought given other m =
+    let new : List (List ℕ) = with_number (named e) (brings e) cards in
+    let back = grown_back new card m in
+    let known = each_with Given e cards brought given in
+    let number : card_number card ≡ card_number back.0 = ap card_number (sym back.2) ∙ grown_number back.0 (each_there Given new back.0 known back.1) in
+    (back.0, (unnamed_with e cards (λ k. other (number ∙ k))).1 back.1, back.2)

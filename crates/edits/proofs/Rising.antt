@@ -8,6 +8,7 @@ use Rattle.refusals.specs.declared.Refusal.{Refusal}
 use Rattle.fields.specs.Layout.{fields_of}
 use Rattle.meaning.specs.Reading.{bad_number, meaning_of}
 use Rattle.card.specs.declared.Answer.{Answer}
+use Rattle.card.specs.Stock.{stock_of}
 use Rattle.card.specs.Answers.{answer_of}
 use Rattle.card.specs.Number.{answer_number}
 use Rattle.cards.specs.Register.{answers, joined, then, cards_from}
@@ -48,12 +49,12 @@ module _ (card : List ℕ) (last : ℕ) {a : Answer} (e : answer_of card last �
 
   -- 5 let it pass, so it is above the last one
   pub answered_above : last < card_number card
-  unfolding answer_of meaning_of bad_number fields_of
+  unfolding answer_of stock_of meaning_of bad_number fields_of
   answered_above = grind (arith, nat_tests, e)
 
   -- and the answer is the same after any lower number
   pub answered_any : (other : ℕ) → other < card_number card → answer_of card other ≡ Ok a
-  unfolding answer_of meaning_of bad_number fields_of
+  unfolding answer_of stock_of meaning_of bad_number fields_of
   answered_any other h = grind (arith, nat_tests, e, h)
 
 -- "rising strictly", after a number

@@ -1,8 +1,9 @@
 -- The cards around a number, as the code finds them: where numbers rise, the cards before the first that is not below it are those with a
 -- lower number. And what an edit brings. It serves the proofs.
 -- Assumes nothing.
-use Rattle.std.specs.Prelude.{ℕ, ◌≡◌, Bool, true, false, List, [], ◌∷◌, map, eqb}
+use Rattle.std.specs.Prelude.{ℕ, ◌≡◌, ◌<◌, Bool, true, false, List, [], ◌∷◌, map, eqb, length, get_or}
 use Rattle.search.specs.Rising.{first_at_least}
+use Rattle.seasons.specs.Seasons.{Given}
 use Rattle.card.specs.declared.Answer.{Answer}
 use Rattle.cards.specs.Register.{answers, cards_from}
 use Rattle.edits.specs.Edits.{card_number}
@@ -23,6 +24,10 @@ one_if false = 0
 unfoldable pub named_in : ℕ → List (List ℕ) → ℕ
 named_in n [] = 0
 named_in n (card ∷ rest) = one_if (eqb (card_number card) n)
+
+-- cards of versions that somebody gives, of several perhaps
+abbrev pub AllGiven : List (List ℕ) → Type 0
+AllGiven cards = (i : ℕ) → i < length cards → Given (get_or cards i [])
 
 -- what an edit of a number brings: no card, or one of that number
 abbrev pub Brings : ℕ → List (List ℕ) → Type 0

@@ -2,19 +2,20 @@
 // buffer changes: the register that the buffer starts with, the cards around a number, what is in the way, and a register's bytes.
 #![tactic(auto)]
 
-ghost use Rattle.std.specs.Prelude.{◌≡◌, ◌+◌, ◌*◌, ◌≤◌, ◌++◌, length};
+ghost use Rattle.std.specs.Prelude.{◌≡◌, ◌+◌, ◌*◌, ◌≤◌, ◌++◌, map, length};
 ghost use Rattle.std.specs.List.{concat};
 ghost use Rattle.buffer.specs.Puts.{Room, Puts};
 ghost use Rattle.header.specs.Header.{size_of};
-ghost use Rattle.header.specs.InTurn.{in_turn, Sized};
+ghost use Rattle.header.specs.InTurn.{in_turn};
+ghost use Rattle.seasons.specs.Seasons.{grown, Given};
 ghost use Rattle.edits.specs.Edits.{card_number, below, above, bad_presence, bad_capacity, header_bytes, held, edit_layout};
-ghost use Rattle.edits.specs.Around.{AllPass, place_of, named_in};
+ghost use Rattle.edits.specs.Around.{AllPass, AllGiven, place_of, named_in};
 
 use buffer::Writer;
 use header::{Cards, Stored};
 
 // The version that an edit makes.
-const VERSION: u8 = 2;
+const VERSION: u8 = 3;
 
 // The register that a buffer starts with: as many bytes as its length field says, or all there are.
 #[tactic(auto, unfolding(crate::specs::Edits::held))]
@@ -77,7 +78,7 @@ pub fn size_of(count: usize) -> usize
     requires { count ≤ 2_001 }
     ensures { result ≡ size_of edit_layout count }
 {
-    header::SECOND.header + header::SECOND.card * count
+    header::THIRD.header + header::THIRD.card * count
 }
 
 // 19: the card of a number has to be there and is not, or must not be there and is.
@@ -108,13 +109,27 @@ pub fn put_header(out: &mut Writer, count: usize, distances: Stored)
     buffer::put_two(out, distances.flammable);
 }
 
-// Cards as they stand, one behind the other, each as long as the version that an edit makes has them.
+// A card as version 3 has it: an older one gains the days that it has without them.
+#[tactic(auto, using(crate::proofs::Ends::stands_longer, crate::proofs::Ends::stands_grown, crate::proofs::Ends::stands_long))]
+fn put_card(out: &mut Writer, card: &[u8])
+    requires { Room out.old 28 × Given card.now }
+    ensures wrote { Puts out.old out.new (grown card.now) }
+    ensures value { out.new.at ≡ out.old.at + 28 }
+{
+    buffer::put_text(out, card);
+    if card.len() < 28 {
+        buffer::put_two(out, 1);
+        buffer::put_two(out, 366);
+    }
+}
+
+// Cards one behind the other, each as version 3 has it.
 pub fn put_cards(out: &mut Writer, cards: Cards)
-    requires { Room out.old (edit_layout.card * length (in_turn cards)) × Sized edit_layout.card (in_turn cards) }
-    ensures wrote { Puts out.old out.new (concat (in_turn cards.entry)) }
-    ensures value { out.new.at ≡ out.old.at + edit_layout.card * length (in_turn cards.entry) }
+    requires { Room out.old (28 * length (in_turn cards)) × AllGiven (in_turn cards) }
+    ensures wrote { Puts out.old out.new (concat (map grown (in_turn cards.entry))) }
+    ensures value { out.new.at ≡ out.old.at + 28 * length (in_turn cards.entry) }
 {
     for place in 0..cards.len() {
-        buffer::put_text(out, cards.at(place));
+        put_card(out, cards.at(place));
     }
 }

@@ -35,7 +35,7 @@ pub lines_numbered : (text : List ℕ) (room place : ℕ) → map number_in (lin
 unfolding lines_at room_at only
 lines_numbered text room place = refl
 
-pub writing_numbered : (register : List ℕ) (room place : ℕ) → map number_in (writing_at register room place) ≡ 1 ∷ 2 ∷ 3 ∷ 4 ∷ 5 ∷ 6 ∷ 7 ∷ 8 ∷ 9 ∷ 14 ∷ 15 ∷ 16 ∷ 10 ∷ 11 ∷ 3 ∷ 13 ∷ []
+pub writing_numbered : (register : List ℕ) (room place : ℕ) → map number_in (writing_at register room place) ≡ 1 ∷ 2 ∷ 3 ∷ 4 ∷ 5 ∷ 6 ∷ 7 ∷ 8 ∷ 9 ∷ 14 ∷ 15 ∷ 16 ∷ 21 ∷ 10 ∷ 11 ∷ 3 ∷ 13 ∷ []
 unfolding writing_at taken_at of_writer room_at conditions_at only of_register of_card at_last
 writing_numbered register room place = refl
 

@@ -1,8 +1,7 @@
 -- Answers that are told as old (document 02, A7): none of an accepted register is, in whatever buffer. So a record that keeps answers from
 -- before and from now can tell them apart.
 -- Assumes nothing.
-use Rattle.std.specs.Prelude.{ℕ, ◌*◌, ◌≤◌, ◌<◌, ◌≡◌, false, List, get_or, take, drop, Option, Some, None, Result, Ok, Err}
-use Rattle.refusals.specs.declared.Refusal.{Refusal}
+use Rattle.std.specs.Prelude.{ℕ, ◌*◌, ◌≤◌, ◌<◌, ◌≡◌, false, List, get_or, take, drop, Option, Some, None, Ok}
 use Rattle.units.specs.declared.Miles.{Miles}
 use Rattle.std.proofs.Common.{arith, ◌∙◌, sym, ap, ⊎_elim, get_or-take, get_or-drop, ne_eqb}
 use Rattle.search.specs.Laws.{clash, lt_or_ge}
@@ -13,11 +12,13 @@ use Rattle.scenario.specs.declared.ToxicCard.{ToxicCard}
 use Rattle.scenario.specs.declared.Scenario.{Scenario}
 use Rattle.scenario.specs.Plan.{plan_of}
 use Rattle.fields.specs.Layout.{fields_of}
+use Rattle.seasons.specs.declared.Season.{Season}
+use Rattle.seasons.specs.Seasons.{season_of}
 use Rattle.meaning.specs.declared.Meaning.{Meaning}
 use Rattle.meaning.specs.declared.Meaning.TheVariants as meaning
-use Rattle.meaning.specs.Reading.{meaning_of}
 use Rattle.card.specs.declared.Answer.{Answer}
-use Rattle.card.specs.Answers.{read_toxic, planned_answer, answer_for, answer_of}
+use Rattle.card.specs.Answers.{read_toxic, planned_answer, answer_by, answer_of}
+use Rattle.card.specs.Number.{stocked}
 use Rattle.buffer.specs.Numbers.{two_bytes, four_bytes}
 use Rattle.encode.specs.Bytes.{answer_bytes, is_old}
 use Rattle.farthest.specs.declared.Leaders.{Leaders}
@@ -28,10 +29,10 @@ use Rattle.ordering.specs.Claim.{Accepts}
 use Rattle.promises.specs.Buffer.{buffer_at}
 
 -- a table that answers is one of the first twelve
-read_table : (g : Ground) (n : ℕ) (s : Scenario) {a : Answer} → read_toxic (reading_of s.table g s.rate.0 s.endpoint) n s ≡ Ok a → a.table ≤ 12
-read_table g n s {a} e = ⊎_elim above (λ k. k) (lt_or_ge 12 a.table)
+read_table : (g : Ground) (n : ℕ) (season : Season) (s : Scenario) {a : Answer} → read_toxic (reading_of s.table g s.rate.0 s.endpoint) n season s ≡ Ok a → a.table ≤ 12
+read_table g n season s {a} e = ⊎_elim above (λ k. k) (lt_or_ge 12 a.table)
   where
-    told : (x : Option Miles) → read_toxic x n s ≡ Ok a → s.table ≡ a.table
+    told : (x : Option Miles) → read_toxic x n season s ≡ Ok a → s.table ≡ a.table
     told (Some d) q = ap table_in q
     told None q = clash (cc)
 
@@ -39,21 +40,21 @@ read_table g n s {a} e = ⊎_elim above (λ k. k) (lt_or_ge 12 a.table)
     above h =
         let same = told (reading_of s.table g s.rate.0 s.endpoint) e in
         let left = reading_none s.table g s.rate.0 s.endpoint (omega arith) in
-        let sent : read_toxic None n s ≡ Ok a = ap (λ x. read_toxic x n s) (sym left) ∙ e in
+        let sent : read_toxic None n season s ≡ Ok a = ap (λ x. read_toxic x n season s) (sym left) ∙ e in
         clash (cc)
 
-plan_table : (p : Option Scenario) (n : ℕ) (card : ToxicCard) {a : Answer} → planned_answer p n card ≡ Ok a → a.table ≤ 12
-plan_table (Some s) n card e = read_table card.topography n s e
-plan_table None n card e = clash (cc)
+plan_table : (p : Option Scenario) (n : ℕ) (season : Season) (card : ToxicCard) {a : Answer} → planned_answer p n season card ≡ Ok a → a.table ≤ 12
+plan_table (Some s) n season card e = read_table card.topography n season s e
+plan_table None n season card e = clash (cc)
 
-meaning_table : (m : Result Meaning Refusal) (n : ℕ) {a : Answer} → answer_for m n ≡ Ok a → a.table ≤ 12
-meaning_table (Ok (meaning.Toxic card)) n e = plan_table (plan_of card) n card e
-meaning_table (Ok (meaning.Flammable card)) n e = let z = ap table_in e in omega arith
-meaning_table (Err r) n e = clash (cc)
+meaning_table : (m : Meaning) (season : Season) (n : ℕ) {a : Answer} → answer_by m season n ≡ Ok a → a.table ≤ 12
+meaning_table (meaning.Toxic card) season n e = plan_table (plan_of card) n season card e
+meaning_table (meaning.Flammable card) season n e = let z = ap table_in e in omega arith
 
 answer_table : (card : List ℕ) (last : ℕ) {a : Answer} → answer_of card last ≡ Ok a → a.table ≤ 12
-unfolding answer_of
-answer_table card last e = meaning_table (meaning_of (fields_of card) last) (fields_of card).number e
+answer_table card last e =
+    let s = stocked card last e in
+    meaning_table s.meaning (season_of card) (fields_of card).number s.answered
 
 -- of an accepted register, the sixteen bytes of each answer in the buffer are told as new
 pub none_old : (bytes out : List ℕ) (l : Leaders) → Accepts bytes out l → (i : ℕ) → i < count_of bytes

@@ -28,6 +28,7 @@ use Rattle.factors.specs.Factors.{column_of}
 use Rattle.which_table.specs.WhichTable.{table_of}
 use Rattle.scenario.specs.Plan.{plan_of, pool_of, vapor_of}
 use Rattle.fields.specs.Layout.{fields_of}
+use Rattle.seasons.specs.Seasons.{whole_year, season_of, bad_day, bad_season}
 use Rattle.ranges.specs.Ranges.{bad_area, bad_heat, bad_pounds, bad_wall, bounds_of, signed, tenths_of}
 use Rattle.meaning.specs.declared.Meaning.{Meaning}
 use Rattle.meaning.specs.declared.Meaning.TheVariants as meaning
@@ -36,6 +37,7 @@ use Rattle.form.specs.Form.{ground_of, held_of, open_of, shape_of, state_of, bla
 use Rattle.card.specs.declared.Class.{Class}
 use Rattle.card.specs.declared.Class.TheVariants as class
 use Rattle.card.specs.declared.Answer.{Answer}
+use Rattle.card.specs.Stock.{stock_of}
 use Rattle.card.specs.Answers.{answer_of}
 use Rattle.farthest.specs.Farthest.{leaders_after, leaders_from, leaders_of}
 use Rattle.buffer.specs.Numbers.{two_bytes, four_bytes}
@@ -83,7 +85,8 @@ pub record Row : Type 0 where
   pub toxic : Option Leader
   pub flammable : Option Leader
 
--- card number, bytes, route, table, pool area, rate in thousandths of a pound per minute, distance in hundredths of a mile
+-- card number, bytes, route, table, pool area, rate in thousandths of a pound per minute, distance in hundredths of a mile; a card that
+-- tells no season is in force all year
 abbrev pub line : Class → ℕ → (ℕ → List ℕ) → ℕ → ℕ → Area → ℕ → ℕ → Line
 line c number card route table pool rate miles =
     record {
@@ -96,6 +99,7 @@ line c number card route table pool rate miles =
             table = table;
             rate = record { 0 = rate };
             distance = record { 0 = miles };
+            season = whole_year;
           };
       pool = pool;
     }
@@ -230,7 +234,7 @@ defined_storing r = defined_by (storing_register (distance_in r.toxic) (distance
 
 -- all that the rows compute with
 unfoldable pub computed : Unit {0}
-unfolding strung two_bytes four_bytes outcome_of cards_of cards_from wrong_for cards_in stored_in layout_in layout_of header_of bad_length bad_version bad_count bad_buffer leaders_of leaders_from leaders_after answer_of fields_of bad_area bad_heat bad_number bad_pounds bad_wall blank bounds_of flammable_of ground_of held_of meaning_of open_of shape_of signed state_of substance_of tenths_of toxic_meaning factors_of toxic_of b1 b2 b3 b4 bad_percent highest lines_of lowest solution_of among look_up is_flammable heat_of first_from metres_of ring_of c1 table1 table2 table3 table4 endpoints5 endpoints6 endpoints7 endpoints8 rates5 rates6 rates7 rates8 table5 table6 table7 table8 table9 table10 table11 table12 answered apart by_range by_row closest closest_column closest_from closest_row distance from_column holding in_use larger largest last_of mark_of past ratio_below smaller thousandths read_in reading_of tables column_of plan_of pool_of table_of vapor_of at_most_ten_minutes diked_area pool_rate
+unfolding strung two_bytes four_bytes outcome_of cards_of cards_from wrong_for cards_in stored_in layout_in layout_of header_of bad_length bad_version bad_count bad_buffer leaders_of leaders_from leaders_after answer_of stock_of season_of bad_season bad_day fields_of bad_area bad_heat bad_number bad_pounds bad_wall blank bounds_of flammable_of ground_of held_of meaning_of open_of shape_of signed state_of substance_of tenths_of toxic_meaning factors_of toxic_of b1 b2 b3 b4 bad_percent highest lines_of lowest solution_of among look_up is_flammable heat_of first_from metres_of ring_of c1 table1 table2 table3 table4 endpoints5 endpoints6 endpoints7 endpoints8 rates5 rates6 rates7 rates8 table5 table6 table7 table8 table9 table10 table11 table12 answered apart by_range by_row closest closest_column closest_from closest_row distance from_column holding in_use larger largest last_of mark_of past ratio_below smaller thousandths read_in reading_of tables column_of plan_of pool_of table_of vapor_of at_most_ten_minutes diked_area pool_rate
 computed = tt
 
 -- Every starred case of document 01.

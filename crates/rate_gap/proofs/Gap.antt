@@ -26,6 +26,8 @@ use Rattle.buffer.specs.Numbers.{byte_at, eight_at, two_bytes, four_bytes}
 use Rattle.buffer.proofs.Laws.{eight_in, read_eight}
 use Rattle.fields.specs.declared.Fields.{Fields}
 use Rattle.fields.specs.Layout.{fields_of}
+use Rattle.seasons.specs.declared.Season.{Season}
+use Rattle.seasons.specs.Seasons.{season_of}
 use Rattle.meaning.specs.declared.Meaning.{Meaning}
 use Rattle.meaning.specs.declared.Meaning.TheVariants as meaning
 use Rattle.meaning.specs.Reading.{meaning_of}
@@ -33,7 +35,8 @@ use Rattle.meaning.specs.States.{by_state}
 use Rattle.meaning.specs.Ranges.{ranged}
 use Rattle.meaning.specs.Inverse.{toxic_from}
 use Rattle.card.specs.declared.Answer.{Answer}
-use Rattle.card.specs.Answers.{planned_answer, answer_for, answer_of}
+use Rattle.card.specs.Answers.{planned_answer, answer_by, answer_of}
+use Rattle.card.specs.Number.{stocked}
 use Rattle.encode.specs.Bytes.{answer_bytes}
 use Rattle.encode.specs.Laws.{length_answer}
 use Rattle.cards.specs.Register.{buffer_of}
@@ -137,8 +140,8 @@ abbrev SaysOf : Chain → Result Answer Refusal → Type 0
 SaysOf chain (Ok a) = Reported chain a.route a.rate.0
 SaysOf chain (Err r) = Unit {0}
 
-plan_says : (p : Option Scenario) (n : ℕ) (card : ToxicCard) (chain : Chain) → Says chain p → SaysOf chain (planned_answer p n card)
-plan_says p n card chain m = grind (arith, m)
+plan_says : (p : Option Scenario) (n : ℕ) (season : Season) (card : ToxicCard) (chain : Chain) → Says chain p → SaysOf chain (planned_answer p n season card)
+plan_says p n season card chain m = grind (arith, m)
 
 -- a toxic card that was read is within document 01's limits
 limits_of : (f : Fields) (last : ℕ) (card : ToxicCard) → meaning_of f last ≡ Ok (meaning.Toxic card) → Limits card
@@ -152,20 +155,20 @@ limits_of f last card e =
           (by_state f (λ x t. Within x) (λ _. solution_within f.cas f.heat) (λ _. within f.cas));
     }
 
-meaning_says : (f : Fields) (last : ℕ) (m : Result Meaning Refusal) (n : ℕ) → meaning_of f last ≡ m → SaysOf (chain_in m) (answer_for m n)
+meaning_says : (f : Fields) (last : ℕ) (m : Meaning) (season : Season) (n : ℕ) → meaning_of f last ≡ Ok m → SaysOf (chain_in (Ok m)) (answer_by m season n)
 unfolding plan_of
-meaning_says f last (Ok (meaning.Toxic card)) n e =
+meaning_says f last (meaning.Toxic card) season n e =
     let limits = limits_of f last card e in
-    plan_says (plan_of card) n card (toxic_chain card.entry card) (entry_says card limits card.entry limits.entry)
-meaning_says f last (Ok (meaning.Flammable card)) n e =
+    plan_says (plan_of card) n season card (toxic_chain card.entry card) (entry_says card limits card.entry limits.entry)
+meaning_says f last (meaning.Flammable card) season n e =
     record { near = not_off blast 3 0 refl (λ q. omega arith) (omega arith) (omega arith) refl; fits = omega arith }
-meaning_says f last (Err r) n e = tt
 
 answer_near : (card : List ℕ) (last : ℕ) {a : Answer} → answer_of card last ≡ Ok a → Reported (chain_of card) a.route a.rate.0
-unfolding chain_of answer_of
+unfolding chain_of
 answer_near card last e =
-    subst (SaysOf (chain_of card)) (answer_first card last e)
-    (meaning_says (fields_of card) 0 (meaning_of (fields_of card) 0) (fields_of card).number refl)
+    let s = stocked card 0 (answer_first card last e) in
+    subst₂ (λ m x. SaysOf (chain_in m) x) (sym s.means) s.answered
+    (meaning_says (fields_of card) 0 s.meaning (season_of card) (fields_of card).number s.means)
 
 -- ---- of a register
 

@@ -1,7 +1,7 @@
 -- Document 02, A10: "Version 3 cards are 28 bytes, with a first and a last day of the year, 1 to 366, 2 bytes each, both included; a
 -- first after the last runs across New Year." The season of a card, and the days on which it is in force.
 -- Assumes nothing.
-use Rattle.std.specs.Prelude.{ℕ, Bool, true, false, List, [], ◌++◌, ltb, leb, eqb, length}
+use Rattle.std.specs.Prelude.{ℕ, Bool, true, false, ◌≡◌, List, [], ◌++◌, ltb, leb, eqb, length, ◌⊎◌}
 use Rattle.search.specs.Rising.{both}
 use Rattle.search.specs.Places.{either}
 use Rattle.buffer.specs.Numbers.{two_at, two_bytes}
@@ -48,3 +48,7 @@ gained false = []
 
 unfoldable pub grown : List ℕ → List ℕ
 grown card = card ++ gained (is_older card)
+
+-- a card of a version that somebody gives: "cards of 24 bytes", or "Version 3 cards are 28 bytes"
+abbrev pub Given : List ℕ → Type 0
+Given card = (length card ≡ 24) ⊎ (length card ≡ 28)

@@ -12,7 +12,7 @@ use Rattle.refusals.specs.declared.Refusal.{Refusal}
 use Rattle.meaning.specs.Reading.{meaning_of}
 use Rattle.card.specs.declared.Answer.{Answer}
 use Rattle.card.specs.Answers.{answer_of}
-use Rattle.card.specs.Number.{answer_number}
+use Rattle.card.specs.Number.{stocked, answer_number}
 use Rattle.header.specs.Header.{enough, count_of, cards_in, bad_length, header_of, Fitting}
 use Rattle.cards.specs.Register.{answers, then, cards_from, outcome_of}
 use Rattle.cards.proofs.Laws.{joined_is, accepted_fits}
@@ -50,8 +50,7 @@ AllMean last (f ∷ rest) = ((r : Refusal) → meaning_of f last ≡ Err r → �
 
 -- a card that is answered has one
 answered_means : (card : List ℕ) (last : ℕ) {a : Answer} → answer_of card last ≡ Ok a → (r : Refusal) → meaning_of (fields_of card) last ≡ Err r → ⊥
-unfolding answer_of
-answered_means card last e r m = clash (cc)
+answered_means card last e r m = let means = (stocked card last e).means in clash (cc)
 
 -- so have cards that are all answered
 answers_mean : (place last : ℕ) (cards : List (List ℕ)) (xs : List Answer) → cards_from place last cards ≡ answers xs → AllMean last (map fields_of cards)

@@ -25,6 +25,8 @@ use Rattle.form.specs.Form.{state_of, ground_of, held_of, shape_of}
 use Rattle.ranges.specs.Ranges.{bad_pounds, bad_area, bad_wall, signed, bad_heat, bounds_of, tenths_of}
 use Rattle.meaning.specs.Reading.{bad_number, substance_of, toxic_meaning, meaning_of}
 use Rattle.meaning.specs.Ranges.{Ranged, ranged}
+use Rattle.seasons.specs.Seasons.{season_of, bad_day, bad_season}
+use Rattle.card.specs.Stock.{stock_of}
 use Rattle.card.specs.Answers.{answer_of}
 use Rattle.farthest.specs.Farthest.{leaders_after, leaders_from, leaders_of}
 use Rattle.header.specs.Header.{layout_of, layout_in, stored_in, cards_in, bad_length, bad_version, bad_count, bad_buffer, header_of}
@@ -122,7 +124,7 @@ unfolding widest
 widest_bytes i = ltb-true _ 256 (every_at (λ b. ltb b 256) widest 0 refl refl i)
 
 widest_written : Writable widest
-unfolding widest outcome_of header_of bad_length bad_version bad_count bad_buffer layout_of layout_in stored_in cards_in wrong_for cards_of cards_from answer_of fields_of meaning_of bad_number shape_of state_of ground_of held_of toxic_meaning substance_of tenths_of toxic_of look_up b1 b2 bounds_of bad_pounds bad_area bad_wall bad_heat signed plan_of pool_of table_of column_of at_most_ten_minutes diked_area pool_rate reading_of read_in tables answered apart by_row closest closest_column closest_from closest_row distance from_column in_use larger largest last_of smaller thousandths leaders_of leaders_from leaders_after
+unfolding widest outcome_of header_of bad_length bad_version bad_count bad_buffer layout_of layout_in stored_in cards_in wrong_for cards_of cards_from answer_of stock_of season_of bad_season bad_day fields_of meaning_of bad_number shape_of state_of ground_of held_of toxic_meaning substance_of tenths_of toxic_of look_up b1 b2 bounds_of bad_pounds bad_area bad_wall bad_heat signed plan_of pool_of table_of column_of at_most_ten_minutes diked_area pool_rate reading_of read_in tables answered apart by_row closest closest_column closest_from closest_row distance from_column in_use larger largest last_of smaller thousandths leaders_of leaders_from leaders_after
 widest_written =
     ((replicate 16 0, record { toxic = Some (leader 4_294_967_295 (record { 0 = 2_500 })); flammable = None }, refl), refl)
 
