@@ -1,8 +1,7 @@
 -- The farthest of a day: what the walk keeps is what the definition says, before the day itself is looked at.
 -- Assumes nothing.
 use Rattle.std.specs.Prelude.{ℕ, ◌≡◌, refl, Bool, true, false, List, [], ◌∷◌, Result, Ok, Err}
-use Rattle.std.proofs.Common.{◌∙◌, sym, ap}
-use Rattle.search.specs.Laws.{clash}
+use Rattle.std.proofs.Common.{sym, ap}
 use Rattle.refusals.specs.declared.Refusal.{Refusal}
 use Rattle.refusals.specs.declared.SentBack.{SentBack}
 use Rattle.seasons.specs.Seasons.{bad_day, in_force}
@@ -30,32 +29,21 @@ today_kept day l (a ∷ xs) = go (λ m. today_kept day m xs) (in_force a.season 
     go ih true = ih (leaders_after l a)
     go ih false = ih l
 
-module _ (day : ℕ) where
-  -- of cards that are all answered the leaders of those in force are kept; the register's own refusal comes before 21
-  cards_told : (c : Cards) (t : Today) → Ok t ≡ kept_result today_after (today_before day) c → unless_bad (bad_day day) t.leaders ≡ result_on day c
+-- the register's own refusal comes before 21
+abbrev pub looked_at : ℕ → Result Today (SentBack ℕ) → Result Leaders (SentBack ℕ)
+looked_at day (Ok t) = unless_bad (bad_day day) t.leaders
+looked_at day (Err sent) = Err sent
+
+module _ (bytes : List ℕ) (day : ℕ) where
+  cards_told : (c : Cards) → result_on day c ≡ looked_at day (kept_result today_after (today_before day) c)
   unfolding leaders_on leaders_of
-  cards_told (answers xs) t e =
-      let z : t ≡ kept_after today_after (today_before day) xs = cc in
-      ap (λ (u : Today). unless_bad (bad_day day) u.leaders) (z ∙ today_kept day no_leaders xs)
-  cards_told (sent_back r place) t e = clash (cc)
+  cards_told (answers xs) = ap (λ (t : Today). unless_bad (bad_day day) t.leaders) (sym (today_kept day no_leaders xs))
+  cards_told (sent_back r place) = refl
 
-  cards_sent : (c : Cards) (sent : SentBack ℕ) → Err sent ≡ kept_result today_after (today_before day) c → Err sent ≡ result_on day c
-  cards_sent (answers xs) sent e = clash (cc)
-  cards_sent (sent_back r place) sent e = cc
-
-  module _ (bytes : List ℕ) (x : Result Today (SentBack ℕ)) (e : x ≡ kept_of today_after (today_before day) bytes) where
-    pub day_sent : (sent : SentBack ℕ) → x ≡ Err sent → Err sent ≡ day_of bytes day
-    unfolding kept_of day_of
-    day_sent sent q = go (header_of bytes enough) (sym q ∙ e)
-      where
-        go : (h : Result ℕ Refusal) → Err sent ≡ kept_behind today_after (today_before day) h bytes → Err sent ≡ day_behind day h bytes
-        go (Ok n) u = cards_sent (cards_of bytes) sent u
-        go (Err r) u = cc
-
-    pub day_told : (t : Today) → x ≡ Ok t → unless_bad (bad_day day) t.leaders ≡ day_of bytes day
-    unfolding kept_of day_of
-    day_told t q = go (header_of bytes enough) (sym q ∙ e)
-      where
-        go : (h : Result ℕ Refusal) → Ok t ≡ kept_behind today_after (today_before day) h bytes → unless_bad (bad_day day) t.leaders ≡ day_behind day h bytes
-        go (Ok n) u = cards_told (cards_of bytes) t u
-        go (Err r) u = clash (cc)
+  pub day_is : day_of bytes day ≡ looked_at day (kept_of today_after (today_before day) bytes)
+  unfolding kept_of day_of
+  day_is = go (header_of bytes enough)
+    where
+      go : (h : Result ℕ Refusal) → day_behind day h bytes ≡ looked_at day (kept_behind today_after (today_before day) h bytes)
+      go (Ok n) = cards_told (cards_of bytes)
+      go (Err r) = refl

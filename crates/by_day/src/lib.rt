@@ -110,6 +110,7 @@ fn kept_of<K: Keeps>(register: &[u8], from: K) -> Result<K, SentBack<u32>>
 }
 
 // The farthest card of each class among those in force on a day. The register is accepted before the day is looked at.
+#[tactic(auto, using(crate::proofs::Days::day_is))]
 pub fn farthest_on(register: &[u8], day: u32) -> Result<Leaders, SentBack<u32>>
     ensures { result ≡ day_of register.now day }
 {
@@ -126,6 +127,7 @@ pub fn farthest_on(register: &[u8], day: u32) -> Result<Leaders, SentBack<u32>>
 
 // The farthest card of each class over the year, and its earliest day. The cards are walked once, whatever the number of days: a card
 // that leads is first in force on the first day of its season, so that no day has to be tried.
+#[tactic(auto, using(crate::proofs::Years::year_is))]
 pub fn year_of(register: &[u8]) -> Result<Year, SentBack<u32>>
     ensures { result ≡ year_of register.now }
 {
