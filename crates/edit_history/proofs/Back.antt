@@ -14,7 +14,7 @@ use Rattle.farthest.specs.declared.Leader.{Leader}
 use Rattle.farthest.specs.Farthest.{At, farthest_of, leaders_of}
 use Rattle.farthest.proofs.Laws.{leads, leaders_toxic, leaders_flammable}
 use Rattle.header.specs.declared.Layout.{Layout}
-use Rattle.header.specs.Header.{version_of, count_of, stored_at, size_of, layout_of, laid, layout_in, size_of, cards_in, stored_if, stored_in, enough, bad_length, bad_version, bad_count, bad_buffer, unknown, header_of}
+use Rattle.header.specs.Header.{version_of, count_of, stored_at, layout_of, laid, layout_in, size_of, cards_in, stored_if, stored_in, enough, bad_length, bad_version, bad_count, bad_buffer, unknown, header_of}
 use Rattle.header.specs.InTurn.{Sized}
 use Rattle.cards.specs.Distances.{distance_in, wrong_for}
 use Rattle.cards.specs.Register.{answers, cards_from, unless_wrong, settled, cards_of, result_of, outcome_of}
