@@ -1,7 +1,7 @@
 -- A register that is laid from cards that pass is accepted, has these cards, and stores the distances of their leaders; and a buffer that
 -- starts with it holds it.
 -- Assumes nothing.
-use Rattle.std.specs.Prelude.{ℕ, zero, suc, ◌+◌, ◌*◌, ◌^◌, ◌≤◌, ◌<◌, ◌≡◌, refl, false, List, ◌++◌, length, take, drop, Option, Some, None, Ok}
+use Rattle.std.specs.Prelude.{ℕ, zero, suc, ◌*◌, ◌^◌, ◌≤◌, ◌<◌, ◌≡◌, refl, false, List, ◌++◌, length, take, drop, Option, Some, None, Ok}
 use Rattle.std.specs.List.{concat}
 use Rattle.std.specs.Simd.{first_chunks}
 use Rattle.std.proofs.Common.{arith, ◌∙◌, sym, ap, ap₂, subst, le-ltb, eq-eqb, take_at, drop_at}
@@ -14,12 +14,12 @@ use Rattle.farthest.specs.declared.Leader.{Leader}
 use Rattle.farthest.specs.Farthest.{At, farthest_of, leaders_of}
 use Rattle.farthest.proofs.Laws.{leads, leaders_toxic, leaders_flammable}
 use Rattle.header.specs.declared.Layout.{Layout}
-use Rattle.header.specs.Header.{version_of, count_of, stored_at, second_layout, layout_of, laid, layout_in, size_of, cards_in, stored_if, stored_in, enough, bad_length, bad_version, bad_count, bad_buffer, unknown, header_of}
-use Rattle.header.proofs.Chunks.{Sized}
+use Rattle.header.specs.Header.{version_of, count_of, stored_at, layout_of, laid, layout_in, size_of, cards_in, stored_if, stored_in, enough, bad_length, bad_version, bad_count, bad_buffer, unknown, header_of}
+use Rattle.header.specs.InTurn.{Sized}
 use Rattle.cards.specs.Distances.{distance_in, wrong_for}
 use Rattle.cards.specs.Register.{answers, cards_from, unless_wrong, settled, cards_of, result_of, outcome_of}
 use Rattle.distances.proofs.Fits.{distance_fits}
-use Rattle.edits.specs.Edits.{edit_version, header_bytes, register_of, held}
+use Rattle.edits.specs.Edits.{edit_version, edit_layout, header_bytes, register_of, held}
 use Rattle.edits.proofs.Rising.{Passes, passed_all, passed_one, passes}
 use Rattle.edits.proofs.Lists.{bytes_length, chunks_back}
 
@@ -41,7 +41,7 @@ leader_fits c xs p = go (farthest_of c xs) refl
 
 -- ---- the register
 
-module _ (cards : List (List ℕ)) (xs : List Answer) (sized : Sized cards) (few : length cards ≤ 2_000) (check : cards_from 0 0 cards ≡ answers xs) where
+module _ (cards : List (List ℕ)) (xs : List Answer) (sized : Sized edit_layout.card cards) (few : length cards ≤ 2_000) (check : cards_from 0 0 cards ≡ answers xs) where
   abbrev register : List ℕ
   register = register_of cards (leaders_of xs)
 
@@ -59,12 +59,12 @@ module _ (cards : List (List ℕ)) (xs : List Answer) (sized : Sized cards) (few
   unfolding flammable
   flammable_fits = subst (λ f. distance_in f < 2 ^ 16) (sym (leaders_flammable xs)) (leader_fits class.Flammable xs (passes 0 0 cards xs check))
 
-  pub length_is : length register ≡ 11 + 24 * length cards
+  pub length_is : length register ≡ size_of edit_layout (length cards)
   unfolding register_of header_bytes four_bytes two_bytes
-  length_is = omega (arith, bytes_length cards sized)
+  length_is = omega (arith, bytes_length edit_layout.card cards sized)
 
   -- what is read off it, from the front
-  field_is : four_at register 0 ≡ 11 + 24 * length cards
+  field_is : four_at register 0 ≡ size_of edit_layout (length cards)
   unfolding register_of header_bytes four_bytes two_bytes
   field_is = omega (arith, few)
 
@@ -88,7 +88,7 @@ module _ (cards : List (List ℕ)) (xs : List Answer) (sized : Sized cards) (few
   unfolding register_of header_bytes four_bytes two_bytes
   behind = refl
 
-  layout_is : layout_in register ≡ second_layout
+  layout_is : layout_in register ≡ edit_layout
   unfolding layout_in layout_of
   layout_is = ap (λ v. laid (layout_of v)) version_is
 
@@ -97,7 +97,7 @@ module _ (cards : List (List ℕ)) (xs : List Answer) (sized : Sized cards) (few
   unfolding cards_in
   cards_are =
       ap (λ (l : Layout). first_chunks l.card (count_of register) (drop l.header register)) layout_is
-      ∙ (ap₂ (λ n (b : List ℕ). first_chunks 24 n b) count_is behind ∙ chunks_back cards sized)
+      ∙ (ap₂ (λ n (b : List ℕ). first_chunks edit_layout.card n b) count_is behind ∙ chunks_back edit_layout.card cards sized)
 
   -- and what it stores is right
   right : wrong_for (stored_in register) (leaders_of xs) ≡ false

@@ -17,7 +17,7 @@ use Rattle.header.specs.Header.{version_of, stored_at, layout_in, size_of, cards
 use Rattle.cards.specs.Distances.{distance_in, distances_of, differ, wrong_for}
 use Rattle.cards.specs.Register.{Cards, answers, sent_back, cards_from, outcome_of}
 use Rattle.cards.proofs.Laws.{accepted_fits}
-use Rattle.header.proofs.Chunks.{Sized}
+use Rattle.header.specs.InTurn.{Sized}
 use Rattle.ordering.proofs.Found.{found}
 use Rattle.conditions.proofs.Afresh.{afresh}
 use Rattle.edits.specs.Edits.{Edit, add, replace, withdraw, named, takes, brings, edited, is_there, bad_presence, bad_capacity, edit_layout, register_of, laid, register_with, held, unless_bad, changed, after_old, register_by, register_after, length_of, left_by, buffer_after}
@@ -43,10 +43,10 @@ kept_afresh register {l} e k =
 
 -- ---- one edit
 
-brought_sized : (e : Edit) → WholeCard e → Sized (brings e)
-brought_sized (add card) w = sized_more card [] w sized_none
-brought_sized (replace card) w = sized_more card [] w sized_none
-brought_sized (withdraw n) w = sized_none
+brought_sized : (e : Edit) → WholeCard e → Sized edit_layout.card (brings e)
+brought_sized (add card) w = sized_more edit_layout.card card [] w (sized_none edit_layout.card)
+brought_sized (replace card) w = sized_more edit_layout.card card [] w (sized_none edit_layout.card)
+brought_sized (withdraw n) w = sized_none edit_layout.card
 
 module _ (e : Edit) (buffer : List ℕ) where
   -- the cards as they would then be
@@ -56,7 +56,7 @@ module _ (e : Edit) (buffer : List ℕ) where
   -- where an edit is accepted: its cards pass, there is room, and they are laid
   record Done : Type 0 where
     list : List Answer
-    sized : Sized new
+    sized : Sized edit_layout.card new
     check : cards_from 0 0 new ≡ answers list
     few : length new ≤ 2_000
     room : size_of edit_layout (length new) ≤ length buffer
@@ -71,8 +71,8 @@ module _ (e : Edit) (w : WholeCard e) (buffer : List ℕ) {l : Leaders} (ok : ou
   unfolding register_by
   after_is = ap (λ o. after_old o (changed (named e) (takes e) (brings e) (cards_in (held buffer)) (length buffer))) ok
 
-  new_sized : Sized (new e buffer)
-  new_sized = sized_edited e (cards_in (held buffer)) (brought_sized e w) (cards_sized (held buffer) (accepted_fits (held buffer) enough l ok).whole)
+  new_sized : Sized edit_layout.card (new e buffer)
+  new_sized = sized_edited edit_layout.card e (cards_in (held buffer)) (brought_sized e w) (cards_sized (held buffer) (accepted_fits (held buffer) enough l ok))
 
   steps : Refused e buffer ⊎ Done e buffer
   unfolding changed register_with edited bad_capacity Refused
