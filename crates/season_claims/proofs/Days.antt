@@ -1,6 +1,6 @@
 -- A day's farthest cards, proved: what the call tells of an accepted register, and that it keeps the ordering.
 -- Assumes nothing.
-use Rattle.std.specs.Prelude.{ℕ, zero, suc, ◌≡◌, refl, Bool, true, false, List, [], ◌∷◌, Result, Ok, Err}
+use Rattle.std.specs.Prelude.{ℕ, ◌≡◌, refl, Bool, true, false, List, Result, Ok, Err}
 use Rattle.std.proofs.Common.{arith, ◌∙◌, sym, ap, subst₂}
 use Rattle.search.specs.Laws.{clash}
 use Rattle.refusals.specs.declared.SentBack.{SentBack}
@@ -21,7 +21,8 @@ use Rattle.ordering.specs.Claim.{card_at}
 use Rattle.ordering.proofs.Order.{cards_ordered, class_is}
 use Rattle.ordering.proofs.Ordering.{in_result}
 use Rattle.ordering.proofs.Found.{found, found_cards, from_card, to_card}
-use Rattle.by_day.specs.Day.{keep_if, in_force_on, leaders_on, unless_bad, day_of}
+use Rattle.by_day.specs.Day.{in_force_on, leaders_on, unless_bad, day_of}
+use Rattle.by_day.proofs.Standing.{from_day, to_day}
 use Rattle.season_claims.specs.Claim.{OnEveryDay, CoveredOn, DaysOrdered}
 
 -- ---- the call
@@ -72,39 +73,6 @@ on_every_day register day = (
       )),
 )
 
--- ---- the answers in force on a day
-
--- each is one of all answers, and in force
-pub from_day : (day : ℕ) (xs : List Answer) (i : ℕ) (a : Answer) → At (in_force_on day xs) i a
-    → (j : ℕ) × At xs j a × (in_force a.season day ≡ true)
-unfolding in_force_on
-from_day day [] i a h = absurd h
-from_day day (x ∷ xs) i a h = go (in_force x.season day) refl i h (λ k w. from_day day xs k a w)
-  where
-    go : (b : Bool) → in_force x.season day ≡ b → (k : ℕ) → At (keep_if b x (in_force_on day xs)) k a
-        → ((k : ℕ) → At (in_force_on day xs) k a → (j : ℕ) × At xs j a × (in_force a.season day ≡ true))
-        → (j : ℕ) × At (x ∷ xs) j a × (in_force a.season day ≡ true)
-    go true p zero w ih = (0, w, ap (λ (y : Answer). in_force y.season day) w ∙ p)
-    go true p (suc k) w ih = let r = ih k w in (suc r.0, r.1, r.2)
-    go false p k w ih = let r = ih k w in (suc r.0, r.1, r.2)
-
--- and each answer in force is one of them
-pub to_day : (day : ℕ) (xs : List Answer) (j : ℕ) (a : Answer) → At xs j a → in_force a.season day ≡ true
-    → (i : ℕ) × At (in_force_on day xs) i a
-unfolding in_force_on
-to_day day [] j a h k = absurd h
-to_day day (x ∷ xs) zero a h k =
-    go (in_force x.season day) refl
-  where
-    go : (b : Bool) → in_force x.season day ≡ b → (i : ℕ) × At (keep_if b x (in_force_on day xs)) i a
-    go true p = (0, h)
-    go false p = clash (let z : true ≡ false = sym k ∙ (ap (λ (y : Answer). in_force y.season day) h ∙ p) in cc)
-to_day day (x ∷ xs) (suc j) a h k = go (in_force x.season day) (to_day day xs j a h k)
-  where
-    go : (b : Bool) → (i : ℕ) × At (in_force_on day xs) i a → (i : ℕ) × At (keep_if b x (in_force_on day xs)) i a
-    go true r = (suc r.0, r.1)
-    go false r = r
-
 -- ---- two registers on one day
 
 -- an answer is in force on the days on which its card is
@@ -129,14 +97,15 @@ module _ (c : Class) (day : ℕ) (first second : List ℕ) (h : CoveredOn c day 
   matched : (i : ℕ) (a : Answer) → At (in_force_on day xs) i a → a.class ≡ c → Matched c a.distance.0 (in_force_on day ys)
   matched i a w k =
       let on = from_day day xs i a w in
-      let x = from_card first enough p on.0 a on.1 in
-      let season = card_in_force (card_at first on.0) x.1 day a x.2 on.2 in
-      let y = h on.0 x.0 (class_is (card_at first on.0) x.1 x.2 ∙ ap kind_of k) season in
+      let j = on.0.0 in
+      let x = from_card first enough p j a on.0.1 in
+      let season = card_in_force (card_at first j) x.1 day a x.2 on.1 in
+      let y = h j x.0 (class_is (card_at first j) x.1 x.2 ∙ ap kind_of k) season in
       let z = to_card second enough q y.0 y.1 in
       let other = answer_in_force (card_at second y.0) z.2 day z.0 z.3 y.2 in
       let there = to_day day ys y.0 z.0 z.1 other in
-      let n = cards_ordered (card_at first on.0) (card_at second y.0) x.1 z.2 y.3 x.2 z.3 in
-      (there.0, z.0, there.1, sym n.class ∙ k, n.distance)
+      let n = cards_ordered (card_at first j) (card_at second y.0) x.1 z.2 y.3 x.2 z.3 in
+      (there.0, z.0, there.1, sym {b = z.0.class} n.class ∙ k, n.distance)
 
   ordered : NoFarther (farthest_of c (in_force_on day xs)) (farthest_of c (in_force_on day ys))
   ordered = no_farther c (in_force_on day xs) (in_force_on day ys) matched

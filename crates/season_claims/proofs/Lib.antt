@@ -1,4 +1,3 @@
 pub mod Days
-pub mod Reached
 pub mod Year
 pub mod Exactly

@@ -1,7 +1,8 @@
 -- The year's farthest cards and their days, proved.
 -- Assumes nothing.
-use Rattle.std.specs.Prelude.{ℕ, ◌<◌, ◌≡◌, refl, true, false, List, Option, Some, None, Result, Ok, Err}
+use Rattle.std.specs.Prelude.{ℕ, ◌<◌, ◌≡◌, refl, true, false, List, ◌↔◌, Option, Some, None, Result, Ok, Err}
 use Rattle.std.proofs.Common.{arith, ◌∙◌, sym, ap, ap₂, subst, subst₂}
+use Rattle.std.proofs.lemmas.Bool.{true≢false}
 use Rattle.std.proofs.lemmas.Bool.Decides.{nat_tests}
 use Rattle.search.specs.Laws.{clash}
 use Rattle.refusals.specs.declared.SentBack.{SentBack}
@@ -9,20 +10,20 @@ use Rattle.card.specs.declared.Answer.{Answer}
 use Rattle.farthest.specs.declared.Leaders.{Leaders}
 use Rattle.card.specs.declared.Class.{Class}
 use Rattle.card.specs.declared.Class.TheVariants as class
-use Rattle.card.specs.Number.{stocked, answer_season}
-use Rattle.seasons.specs.Seasons.{bad_season}
 use Rattle.seasons.proofs.SeasonLaws.{day_within, good_day}
 use Rattle.farthest.specs.declared.Leader.{Leader}
-use Rattle.farthest.specs.Farthest.{At, NoFarther, NoCard, farthest_of, leaders_of}
-use Rattle.farthest.proofs.Laws.{none_only, none_if}
+use Rattle.farthest.specs.Farthest.{NoFarther, NoCard, farthest_of, leaders_of}
+use Rattle.farthest.proofs.Laws.{none_if}
 use Rattle.ordering.specs.Order.{kind_of}
 use Rattle.ordering.specs.Claim.{card_at, farthest_in}
 use Rattle.ordering.proofs.Order.{class_is}
 use Rattle.prefix.proofs.Kept.{same_class}
 use Rattle.ordering.proofs.Ordering.{in_result}
 use Rattle.by_day.specs.Day.{in_force_on, leaders_on, unless_bad, day_of}
-use Rattle.season_claims.proofs.Days.{day_is, day_told, from_day}
-use Rattle.season_claims.proofs.Reached.{Has, on_day_at_most, reached, earliest}
+use Rattle.season_claims.proofs.Days.{day_is, day_told}
+use Rattle.by_day.proofs.Standing.{from_day, on_day_at_most}
+use Rattle.by_day.proofs.Reached.{Good, reached, earliest, no_cards}
+use Rattle.by_day.proofs.Years.{good_seasons}
 use Rattle.header.specs.declared.Stored.{Stored}
 use Rattle.header.specs.Header.{stored_at, layout_in, stored_if, stored_in, enough}
 use Rattle.cards.specs.Distances.{distances_of, differ, wrong_for}
@@ -88,7 +89,7 @@ year_exceeded c register year day m e q =
     subst₂ NoFarther
     (in_result c (in_force_on day (list register year f)) (day_told register day m f.accepted q).leads)
     (in_result c (list register year f) (leads register year f))
-    (on_day_at_most c day (list register year f))
+    (on_day_at_most day c (list register year f))
 
 module _ (c : Class) (register : List ℕ) (year : Year) (f : YearFound register year) where
   abbrev xs : List Answer
@@ -103,17 +104,12 @@ module _ (c : Class) (register : List ℕ) (year : Year) (f : YearFound register
   told_day class.Toxic = ap (λ (y : Year). y.toxic_day) f.told
   told_day class.Flammable = ap (λ (y : Year). y.flammable_day) f.told
 
-  day_is_told : (l : Option Leader) → farthest_in c year.leaders ≡ l → earliest_day c xs l ≡ day_in c year
-  day_is_told l e = ap (earliest_day c xs) (sym (farthest_is ∙ e)) ∙ told_day c
-
   -- an accepted card's season has days of the year alone
-  good_seasons : (i : ℕ) (a : Answer) → At xs i a → bad_season a.season ≡ false
-  good_seasons i a w =
-      let x = from_card register enough f.accepted i a w in
-      ap bad_season (answer_season (card_at register i) x.1 x.2) ∙ (stocked (card_at register i) x.1 x.2).season
+  good : Good xs
+  good = good_seasons register xs (found_cards register (found register enough f.accepted))
 
   -- the farthest of a day of the year
-  far_on : (d day : ℕ) → DayOfYear day → Has c xs d day → FarOn c register day d
+  far_on : (d day : ℕ) → DayOfYear day → has_distance (farthest_on c day xs) d ≡ true → FarOn c register day d
   unfolding leaders_on
   far_on d day k h = go (farthest_on c day xs) refl h
     where
@@ -130,18 +126,17 @@ module _ (c : Class) (register : List ℕ) (year : Year) (f : YearFound register
   module _ (lead : Leader) (e : farthest_in c year.leaders ≡ Some lead) where
     reached_day : DayOfYear (day_in c year) × FarOn c register (day_in c year) lead.distance.0
     reached_day =
-        let r = reached c xs lead (farthest_is ∙ e) good_seasons in
-        subst (λ day. DayOfYear day × FarOn c register day lead.distance.0) (day_is_told (Some lead) e)
-        ((r.0, r.1), far_on lead.distance.0 (earliest_day c xs (Some lead)) (r.0, r.1) r.2)
+        let r = reached c xs good lead (farthest_is ∙ e) in
+        subst (λ day. DayOfYear day × FarOn c register day lead.distance.0) (told_day c)
+        ((r.0, r.1), far_on lead.distance.0 (earliest_day c xs (farthest_of c xs)) (r.0, r.1) r.2)
 
     no_earlier : (day : ℕ) → day < day_in c year → FarOn c register day lead.distance.0 → ⊥
     no_earlier day h o =
         let t = day_told register day o.0 f.accepted o.2 in
         let on : farthest_on c day xs ≡ Some o.1 = in_result c (in_force_on day xs) t.leads ∙ o.3 in
         let has : has_distance (Some o.1) lead.distance.0 ≡ true = grind (arith, nat_tests, o.4) in
-        earliest c xs lead (farthest_is ∙ e) day (day_within day t.good).0
-        (subst (λ n. day < n) (sym (day_is_told (Some lead) e)) h)
-        (ap (λ (l : Option Leader). has_distance l lead.distance.0) on ∙ has)
+        let not = earliest c xs good lead (farthest_is ∙ e) day (day_within day t.good).0 (subst (λ n. day < n) (sym (told_day c)) h) in
+        true≢false (sym has ∙ (ap (λ (l : Option Leader). has_distance l lead.distance.0) (sym on) ∙ not))
 
   -- a class without cards has no answer
   no_answer : NoCardOf c register → NoCard c xs
@@ -157,17 +152,15 @@ module _ (c : Class) (register : List ℕ) (year : Year) (f : YearFound register
   without : NoCardOf c register → farthest_in c year.leaders ≡ None
   without n = sym farthest_is ∙ none_if c xs (no_answer n)
 
-  day_zero : day_in c year ≡ 0 → NoCardOf c register
-  day_zero z = go (farthest_in c year.leaders) refl
-    where
-      go : (l : Option Leader) → farthest_in c year.leaders ≡ l → NoCardOf c register
-      go None e = no_card (none_only c xs (farthest_is ∙ e))
-      go (Some lead) e = absurd (omega (arith, z, (reached_day lead e).0.0))
+  zero_exactly : (day_in c year ≡ 0) ↔ NoCardOf c register
+  zero_exactly =
+      let n = no_cards c xs good in
+      ((λ z. no_card (n.0 (told_day c ∙ z))), (λ w. sym (told_day c) ∙ n.1 (no_answer w)))
 
   none_on_day : NoCardOf c register → (day : ℕ) (m : Leaders) → day_of register day ≡ Ok m → farthest_in c m ≡ None
   none_on_day n day m q =
       sym (in_result c (in_force_on day xs) (day_told register day m f.accepted q).leads)
-      ∙ none_if c (in_force_on day xs) (λ i a w k. let on = from_day day xs i a w in no_answer n on.0 a on.1 k)
+      ∙ none_if c (in_force_on day xs) (λ i a w k. let on = (from_day day xs i a w).0 in no_answer n on.0 a on.1 k)
 
 pub year_reached : YearReached
 year_reached c register year lead e k = reached_day c register year (year_found register year e) lead k
@@ -177,10 +170,8 @@ year_earliest c register year lead day e k h o = no_earlier c register year (yea
 
 pub no_day : NoDay
 no_day c register year e =
-    let f = year_found register year e in (
-      (day_zero c register year f, λ n. sym (day_is_told c register year f None (without c register year f n))),
-      λ n. (without c register year f n, none_on_day c register year f n),
-    )
+    let f = year_found register year e in
+    (zero_exactly c register year f, λ n. (without c register year f n, none_on_day c register year f n))
 
 -- ---- the header
 
