@@ -1,8 +1,8 @@
 /*
  * The ring register: worst-case distances of a register of cards, by the tables and Equation C-1 of the EPA's guidance,
- * registers from comma lines and back, the likely distance of a card at a rate that is supplied, whether a stored answer is
- * old, and cards added to a register, replaced and withdrawn. Nine calls, proved in crates/rings_c; link
- * crates/rings_c/out/librings_c.a (written by `rt lib` there).
+ * those of a day and of the year, registers from comma lines and back, the likely distance of a card at a rate that is
+ * supplied, whether a stored answer is old, and cards added to a register, replaced and withdrawn. Eleven calls, proved in
+ * crates/rings_c; link crates/rings_c/out/librings_c.a (written by `rt lib` there).
  */
 #ifndef RINGS_H
 #define RINGS_H
@@ -14,22 +14,33 @@
 extern "C" {
 #endif
 
-#define RINGS_HEADER_LEN 7                                                          /* bytes before the first card in version 1 */
-#define RINGS_STORED_HEADER_LEN 11                                                  /* the same in version 2 */
-#define RINGS_CARD_LEN 24                                                           /* bytes of a card */
-#define RINGS_ANSWER_LEN 16                                                         /* bytes of a card's answer */
-#define RINGS_MAX_CARDS 2000                                                        /* cards of the longest register */
-#define RINGS_MAX_LEN (RINGS_STORED_HEADER_LEN + RINGS_MAX_CARDS * RINGS_CARD_LEN)  /* its bytes, 48,011 */
-#define RINGS_MAX_LINE 200                                                          /* bytes of a comma line, read */
-#define RINGS_MAX_STRICT_LINE 59                                                    /* written, with its line feed */
-#define RINGS_MAX_STRICT_LEN (RINGS_MAX_CARDS * RINGS_MAX_STRICT_LINE)              /* bytes of the lines of a register */
-#define RINGS_MAX_RATE 1000000000                                                   /* thousandths that may be supplied */
+#define RINGS_HEADER_LEN 7                                                                   /* bytes before the first card in version 1 */
+#define RINGS_STORED_HEADER_LEN 11                                                           /* the same in versions 2 and 3 */
+#define RINGS_CARD_LEN 24                                                                    /* bytes of a card in versions 1 and 2 */
+#define RINGS_SEASONAL_CARD_LEN 28                                                           /* the same in version 3 */
+#define RINGS_ANSWER_LEN 16                                                                  /* bytes of a card's answer */
+#define RINGS_MAX_CARDS 2000                                                                 /* cards of the longest register */
+#define RINGS_MAX_LEN (RINGS_STORED_HEADER_LEN + RINGS_MAX_CARDS * RINGS_SEASONAL_CARD_LEN)  /* its bytes, 56,011 */
+#define RINGS_MAX_LINE 200                                                                   /* bytes of a comma line, read */
+#define RINGS_MAX_STRICT_LINE 59                                                             /* written, with its line feed */
+#define RINGS_MAX_STRICT_LEN (RINGS_MAX_CARDS * RINGS_MAX_STRICT_LINE)                       /* bytes of the lines of a register */
+#define RINGS_MAX_RATE 1000000000                                                            /* thousandths that may be supplied */
+#define RINGS_LAST_DAY 366                                                                   /* of a year, the first is 1 */
 
 /*
  * The header of a register, each number big-endian: 4 bytes for its length, 1 for its version, 2 for how many cards.
- * Version 1 has the cards behind these. Version 2 has first the distances of the farthest cards that rings_answer gives, in
- * hundredths of a mile, 2 bytes for toxic and 2 for flammable, zero for none. Both versions are taken by every call that
- * reads a register, but for rings_write_lines; rings_read_lines makes version 1, and an edit version 2.
+ * Version 1 has the cards behind these. Versions 2 and 3 have first the distances of the farthest cards that rings_answer
+ * gives, which are those of the year, in hundredths of a mile, 2 bytes for toxic and 2 for flammable, zero for none. All
+ * three versions are taken by every call that reads a register, but for rings_write_lines; rings_read_lines makes version 1,
+ * and an edit version 3.
+ */
+
+/*
+ * The season of a card. In version 3 a card has 28 bytes: the 24 that it has in versions 1 and 2, and behind them its first
+ * and its last day, each a big-endian number of 2 bytes, 1 to RINGS_LAST_DAY, both included. A first day after the last
+ * runs across New Year: 366 and 1 are two days, 152 and 151 all of them. On these days the card is in force. A card of
+ * version 1 or 2 is in force on every day, as from 1 to 366. No call but rings_day and rings_year looks at seasons once
+ * they have passed their check.
  */
 
 /*
@@ -47,17 +58,18 @@ extern "C" {
  */
 
 /*
- * Why a register, a text or a card is sent back. 1 to 4, 13, 19 and 20 mean no card, and their place is 0; the place of 12
- * is the line's number, counted from 1. A register is checked in the order 1, 2, 3, 4, its cards in turn, and last 3 once
- * more, for what version 2 stores; a card in the order 5, 6, 7, 8, 9, 14, 15 (or 16 in state 5), 10, 11. 17 and 18 are of
- * rings_likely alone, 19 and 20 of edits.
+ * Why a register, a text or a card is sent back. 1 to 4, 13, 19, 20 and the 21 of rings_day mean no card, and their place is
+ * 0; the place of 12 is the line's number, counted from 1. A register is checked in the order 1, 2, 3, 4, its cards in turn,
+ * and last 3 once more, for what versions 2 and 3 store; a card in the order 5, 6, 7, 8, 9, 14, 15 (or 16 in state 5), 21,
+ * 10, 11. 17 and 18 are of rings_likely alone, 19 and 20 of edits.
  */
 enum rings_refusal {
     RINGS_LENGTH = 1,         /* under 7 bytes, or the length field is not register_len; in an edit, the length field is
                                  under 7 or past the buffer */
-    RINGS_VERSION = 2,        /* the version is neither 1 nor 2; for rings_write_lines, it is not 1 */
-    RINGS_COUNT = 3,          /* over 2,000 cards, or a length that is not 7 + 24 x cards, in version 2 11 + 24 x cards; or,
-                                 once every card has passed, a stored distance that is not the farthest card's */
+    RINGS_VERSION = 2,        /* the version is not 1, 2 or 3; for rings_write_lines, it is not 1 */
+    RINGS_COUNT = 3,          /* over 2,000 cards, or a length that is not 7 + 24 x cards, in version 2 11 + 24 x cards, in
+                                 version 3 11 + 28 x cards; or, once every card has passed, a stored distance that is not
+                                 the farthest card's */
     RINGS_BUFFER = 4,         /* answers_len is under 16 x cards */
     RINGS_NUMBER = 5,         /* a card number is zero or not above the last */
     RINGS_FORM = 6,           /* bytes 0 to 3 are unlisted, or a must-be-zero field is filled */
@@ -74,7 +86,10 @@ enum rings_refusal {
     RINGS_RATE = 17,          /* the supplied rate is zero or above RINGS_MAX_RATE */
     RINGS_DURATION = 18,      /* the supplied duration is zero */
     RINGS_PRESENCE = 19,      /* no card of that number to replace or withdraw, or one there already to add */
-    RINGS_CAPACITY = 20       /* the buffer cannot hold the register as it would then be, or it would pass 2,000 cards */
+    RINGS_CAPACITY = 20,      /* the buffer cannot hold the register as it would then be, 11 + 28 x cards, or it would pass
+                                 2,000 cards */
+    RINGS_DAY = 21            /* a day that is not 1 to RINGS_LAST_DAY: the first or the last of a card, of either kind, or
+                                 the one that rings_day is asked for */
 };
 
 /*
@@ -133,6 +148,46 @@ uint64_t rings_leaders_after(const uint8_t *register_ptr, size_t register_len,
                              uint64_t *toxic, uint64_t *flammable);
 
 /*
+ * The farthest toxic and the farthest flammable card of a register among those in force on a day, the earlier one on a tie.
+ *
+ * register_ptr   the register's first byte; it is only read.
+ * register_len   its length in bytes; no length is too long or too short to be handed in.
+ * day            1 to RINGS_LAST_DAY; any number may be handed in.
+ * toxic          set to the farthest toxic card of that day: 0 for none, else card number x 65,536 + hundredths of a mile.
+ * flammable      the same of the farthest flammable card.
+ *
+ * Returns 0 if the register is accepted and there is such a day. A refusal is its number x 2^32 + the card's place, counted
+ * from 0: the one that rings_answer gives for the register, but never RINGS_BUFFER; then RINGS_DAY with place 0. It changes
+ * neither word.
+ *
+ * For pointers, overlaps and threads the rules of rings_answer hold.
+ */
+uint64_t rings_day(const uint8_t *register_ptr, size_t register_len,
+                   uint32_t day,
+                   uint64_t *toxic, uint64_t *flammable);
+
+/*
+ * The farthest toxic and the farthest flammable card of a register in a year, which are those that rings_answer gives, and
+ * for each the earliest day on which some card in force has its distance.
+ *
+ * register_ptr   the register's first byte; it is only read.
+ * register_len   its length in bytes; no length is too long or too short to be handed in.
+ * toxic          set to the farthest toxic card: 0 for none, else card number x 65,536 + hundredths of a mile.
+ * flammable      the same of the farthest flammable card.
+ * toxic_day      set to the first day whose farthest toxic card has that distance, 1 to RINGS_LAST_DAY: 0 for none. It need
+ *                not be a day of the card that is told, since an equally far one may be in force before.
+ * flammable_day  the same of flammable cards.
+ *
+ * Returns 0 if the register is accepted. A refusal is the one that rings_answer gives for the register, but never
+ * RINGS_BUFFER: its number x 2^32 + the card's place, counted from 0. It changes none of the four words.
+ *
+ * For pointers, overlaps and threads the rules of rings_answer hold, of all four words.
+ */
+uint64_t rings_year(const uint8_t *register_ptr, size_t register_len,
+                    uint64_t *toxic, uint64_t *flammable,
+                    uint64_t *toxic_day, uint64_t *flammable_day);
+
+/*
  * Reads comma lines into a register of version 1.
  *
  * text_ptr       the text's first byte; it is only read. A line is a card: kind, state, ground, containment, CAS number
@@ -160,7 +215,7 @@ uint64_t rings_read_lines(const uint8_t *text_ptr, size_t text_len,
  * Writes an accepted register of version 1 as comma lines in their one strict form: no spaces, no zeros before a number, an
  * empty remark, a line feed behind every line. Read again they give the same register.
  *
- * register_ptr   the register's first byte; it is only read. Version 2 is RINGS_VERSION, right after RINGS_LENGTH.
+ * register_ptr   the register's first byte; it is only read. Versions 2 and 3 are RINGS_VERSION, right after RINGS_LENGTH.
  * register_len   its length in bytes; no length is too long or too short to be handed in.
  * text_ptr       the first byte of the buffer for the text. Bytes behind the text are left alone.
  * text_len       the buffer's length in bytes; RINGS_MAX_STRICT_LEN is enough for any register.
@@ -180,8 +235,8 @@ uint64_t rings_write_lines(const uint8_t *register_ptr, size_t register_len,
  * The likely distance of a toxic card, from the guidance's tables of alternative scenarios, at a rate and a duration that
  * are supplied. What the card says of its quantity, its containment and its temperature is checked, but does not change it.
  *
- * card           the first of the card's 24 bytes, as they stand in a register; they are only read. Its number may be
- *                anything, zero too.
+ * card           the first of the card's 24 bytes, as they stand in a register, without a season; they are only read. Its
+ *                number may be anything, zero too.
  * rate           thousandths of a pound per minute, 1 to RINGS_MAX_RATE.
  * minutes        how long it lasts, 1 or more: up to 10 minutes select a 10-minute table, more a 60-minute one. A
  *                solution always reads a 10-minute table, and the tables of single substances hold for any duration.
@@ -214,14 +269,16 @@ uint64_t rings_likely(const uint8_t *card, uint64_t rate, uint32_t minutes,
 uint64_t rings_is_old(const uint8_t *answer);
 
 /*
- * Adds a card to the register that a lent buffer starts with, at its place by number. The register is then of version 2,
- * whichever it was, with the distances of its farthest cards in the header; the other cards keep their bytes.
+ * Adds a card to the register that a lent buffer starts with, at its place by number. The register is then of version 3,
+ * whichever it was, with the distances of its farthest cards in the header; the other cards keep their bytes, and those of
+ * version 1 or 2 gain a season behind them, 1 to 366.
  *
  * buffer_ptr     the buffer's first byte. The register starts there, and its length field says where it ends; bytes behind
  *                it are not looked at, and after an accepted edit they are zeros up to the buffer's end.
  * buffer_len     the buffer's length in bytes; no length is too long or too short to be handed in. RINGS_MAX_LEN is enough
  *                for any edit.
- * card           the first of the card's 24 bytes; they are only read. Its number is the last four of them.
+ * card           the first of the card's 28 bytes; they are only read. Its number is bytes 20 to 23, its season the last
+ *                four.
  * at             set in every case: to the register's length in bytes as it now is, or to the refusal's place.
  *
  * Returns 0 if the card is added. A refusal is its number and changes no byte of the buffer, those behind the register
@@ -241,7 +298,8 @@ uint64_t rings_add(uint8_t *buffer_ptr, size_t buffer_len,
  * Replaces the card that has the same number as the one that is handed in. All else of it may change; the same bytes once
  * more are an edit like any other.
  *
- * The rest is as in rings_add. A register of version 1 grows by four bytes, so that this may be RINGS_CAPACITY too.
+ * The rest is as in rings_add. A register of version 1 grows by four bytes and four a card, one of version 2 by four a card,
+ * so that this may be RINGS_CAPACITY too.
  */
 uint64_t rings_replace(uint8_t *buffer_ptr, size_t buffer_len,
                        const uint8_t *card,
@@ -252,7 +310,8 @@ uint64_t rings_replace(uint8_t *buffer_ptr, size_t buffer_len,
  *
  * number         the card's number; any may be handed in, zero too, which no card has.
  *
- * The rest is as in rings_add, without a new card; and there is always room, so never RINGS_CAPACITY.
+ * The rest is as in rings_add, without a new card. From seven cards of version 1 on, or eight of version 2, even this may be
+ * RINGS_CAPACITY, since the other cards grow.
  */
 uint64_t rings_withdraw(uint8_t *buffer_ptr, size_t buffer_len,
                         uint32_t number,

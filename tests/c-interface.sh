@@ -1,11 +1,11 @@
 #!/usr/bin/env bash
 # Compiles the C programs against the proved archive, which `rt lib` has written. What the example prints is compared with the
 # listings and the leaders, the comma lines of the examples are read into their registers and written from them, likely distances
-# are found, old answers are told, and registers are edited.
+# are found, old answers are told, registers are edited, and the rings of days and of the year are told.
 set -euo pipefail
 cd "$(dirname "$0")/.."
 mkdir -p target
-for program in example lines likely old edit; do
+for program in example lines likely old edit seasons; do
     gcc -std=c11 -Wall -Wextra -Werror -O2 -Ic "c/$program.c" crates/rings_c/out/librings_c.a -o "target/c-$program"
 done
 
@@ -42,7 +42,7 @@ echo "the C example prints the listings and the leaders of $(ls examples/*.leade
 # lines into the register, the register into lines in strict form, and those into the register again
 for register in examples/*.register; do
     name=${register%.register}
-    # version 2 has no lines
+    # versions 2 and 3 have no lines
     if [ ! -e "$name.lines" ]; then
         refused "refused 2 at 0" target/c-lines write <"$register"
         continue
@@ -129,7 +129,8 @@ test "$status" = 2
 test -s target/c-error
 echo "the C program tells old answers from those of the equation"
 
-# the edits of the example, one after the other, from document 01's register; refused ones between them change nothing
+# the edits of the example, one after the other, from document 01's register; refused ones between them change nothing. Two days may
+# stand before a card's line
 before=examples/document-01.register
 after=target/c-edited
 edit() {
@@ -138,21 +139,34 @@ edit() {
 }
 cp "$before" "$after"
 while read -r word what; do
-    edit "$word" "$what"
+    if [[ $what =~ ^([0-9]+)\ ([0-9]+)\ (.*)$ ]]; then
+        edit "$word" "${BASH_REMATCH[@]:1}"
+    else
+        edit "$word" "$what"
+    fi
     refused "refused 19 at 0" target/c-edit withdraw 14 <"$after"
 done <examples/edited.edits
 cmp "$after" examples/edited.register
 
-# an edit and its undoing: the cards are as before, and the register is of version 2
+# the cards of a register of version 1, with the days 1 and 366 behind each
+grown() {
+    python3 - "$1" <<'PY'
+import sys
+cards = open(sys.argv[1], "rb").read()[7:]
+sys.stdout.buffer.write(b"".join(cards[i:i + 24] + bytes([0, 1, 1, 110]) for i in range(0, len(cards), 24)))
+PY
+}
+
+# an edit and its undoing: the cards are as before but for their days, and the register is of version 3
 bromine=1,4,2,1,7726-95-6,20000,100,400,250,12,
 edit replace "$bromine"
 edit withdraw 9
 edit add 2,0,0,0,74-98-6,10000,0,0,0,13,
-cmp <(tail -c +12 "$after") <(tail -c +8 "$before")
+cmp <(tail -c +12 "$after") <(grown "$before")
 target/c-example "$after" | diff - <(cat examples/document-01.listing examples/document-01.leaders)
 refused "refused 2 at 0" target/c-lines write <"$after"
 for number in 11 12 13; do edit withdraw "$number"; done
-cmp "$after" <(printf '\0\0\0\013\002\0\0\0\0\0\0')
+cmp "$after" <(printf '\0\0\0\013\003\0\0\0\0\0\0')
 
 # 19 before the new card, the new card at its new place, and the old register before both
 refused "refused 19 at 0" target/c-edit add "${bromine/20000/0}" <"$before"
@@ -161,6 +175,9 @@ refused "refused 19 at 0" target/c-edit withdraw 0 <"$before"
 refused "refused 19 at 0" target/c-edit withdraw 4294967295 <"$before"
 refused "refused 8 at 1" target/c-edit replace "${bromine/20000/0}" <"$before"
 refused "refused 14 at 3" target/c-edit add "${bromine/400,250,12/10001,250,14}" <"$before"
+refused "refused 21 at 1" target/c-edit replace 0 366 "$bromine" <"$before"
+refused "refused 21 at 3" target/c-edit add 1 367 "${bromine/,12,/,14,}" <"$before"
+refused "refused 15 at 3" target/c-edit add 65535 0 "${bromine/250,12/3001,14}" <"$before"
 refused "refused 5 at 0" target/c-edit add "${bromine/,12,/,0,}" <"$before"
 refused "refused 14 at 1" target/c-edit withdraw 1 <examples/refused.register
 refused "refused 3 at 0" target/c-edit withdraw 9 <examples/stale.register
@@ -172,11 +189,11 @@ refused "refused 12 at 1" target/c-edit add "$bromine," <"$before"
 for ((i = 1; i <= 2000; i++)); do echo "2,0,0,0,74-98-6,10000,0,0,0,$i,"; done | target/c-lines read >"$after"
 refused "refused 20 at 0" target/c-edit add 2,0,0,0,74-98-6,10000,0,0,0,2001, <"$after"
 edit replace 2,0,0,0,74-98-6,20000,0,0,0,1000,
-test "$(wc -c <"$after")" = 48011
+test "$(wc -c <"$after")" = 56011
 refused "refused 20 at 0" target/c-edit add 2,0,0,0,74-98-6,10000,0,0,0,2001, <"$after"
 edit withdraw 1
 edit add 2,0,0,0,74-98-6,10000,0,0,0,2001,
-cmp <(head -c 11 "$after") <(printf '\0\0\273\213\002\007\320\0\0\0\026')
+cmp <(head -c 11 "$after") <(printf '\0\0\332\313\003\007\320\0\0\0\026')
 fails 2 target/c-edit withdraw 2 < <(cat "$after" && echo)
 test -s target/c-error
 
@@ -187,6 +204,10 @@ fails 2 target/c-edit withdraw -1 <"$before"
 fails 2 target/c-edit withdraw 4294967296 <"$before"
 fails 2 target/c-edit drop 12 <"$before"
 fails 2 target/c-edit add "" <"$before"
+fails 2 target/c-edit add 60 "$bromine" <"$before"
+fails 2 target/c-edit add 60 65536 "$bromine" <"$before"
+fails 2 target/c-edit add -1 151 "$bromine" <"$before"
+fails 2 target/c-edit withdraw 60 151 12 <"$before"
 fails 2 target/c-edit withdraw 12 <examples
 test -s target/c-error
 status=0
@@ -194,3 +215,48 @@ target/c-edit withdraw 12 <"$before" >/dev/full 2>target/c-error || status=$?
 test "$status" = 2
 test -s target/c-error
 echo "the C program edits registers as stored"
+
+# the depot in March, in August, over the year, and by its calendar
+depot=examples/depot.register
+seasons=target/c-seasons
+"$seasons" 75 220 year calendar <"$depot" | diff - examples/depot.days
+# its days one by one are those of the calendar
+"$seasons" {1..366} <"$depot" | cut -d' ' -f3- | uniq | diff - <("$seasons" calendar <"$depot" | cut -d' ' -f5-)
+# older cards are in force on every day
+rings="T 12 1.80, F 13 0.18"
+"$seasons" 1 366 calendar year <"$before" | diff - <(
+    printf 'on 1: %s\non 366: %s\nfrom 1 to 366: %s\n' "$rings" "$rings" "$rings"
+    echo "over the year: T 12 1.80 on 1, F 13 0.18 on 1"
+)
+"$seasons" 1 calendar year <examples/empty.register | diff - <(
+    printf 'on 1: %s\nfrom 1 to 366: %s\nover the year: %s\n' "T none, F none" "T none, F none" "T none, F none"
+)
+
+# a day that no year has comes last, and after what was asked for before it
+for day in 0 367 512 4294967295; do
+    refused "refused 21 at 0" "$seasons" "$day" <"$depot"
+    refused "refused 14 at 1" "$seasons" "$day" <examples/refused.register
+    refused "refused 3 at 0" "$seasons" "$day" <examples/stale.register
+done
+for asked in 1 year calendar; do
+    refused "refused 14 at 1" "$seasons" "$asked" <examples/refused.register
+    refused "refused 3 at 0" "$seasons" "$asked" <examples/stale.register
+    refused "refused 1 at 0" "$seasons" "$asked" </dev/null
+done
+status=0
+"$seasons" 75 367 220 <"$depot" >target/c-output 2>target/c-error || status=$?
+test "$status" = 1
+diff target/c-output <(head -n 1 examples/depot.days)
+diff target/c-error <(echo "refused 21 at 0")
+
+# what is no day is said with status 2 before anything is printed, and so are errors
+for asked in "" -1 4294967296 day 1.0; do fails 2 "$seasons" 75 "$asked" <"$depot"; done
+fails 2 "$seasons" <"$depot"
+fails 2 "$seasons" 75 < <(head -c 56012 /dev/zero)
+fails 2 "$seasons" 75 <examples
+test -s target/c-error
+status=0
+"$seasons" 75 <"$depot" >/dev/full 2>target/c-error || status=$?
+test "$status" = 2
+test -s target/c-error
+echo "the C program tells the rings of days and of the year as stored"

@@ -25,12 +25,12 @@ done
 
 slowly examples/document-01.register | "$rings" | diff - examples/document-01.listing
 
-# the longest register, which is of version 2 and has 48,011 bytes; an input as long, and one byte more
-longest='stored T none, F 0.18\n2000 * flammable - - - 74-98-6 10,000 - - - 1\n'
+# the longest register, which is of version 3 and has 56,011 bytes; an input as long, and one byte more
+longest='year T none, F 0.18\n2000 * flammable - - - 74-98-6 10,000 - - - 1\n'
 python3 tools/register.py <(printf "$longest") target/longest.register
 "$rings" <target/longest.register | tail -n 3 | diff - <(printf '2000 3 0 0.000 0.18\nT none\nF 1 0.18\n')
-head -c 48011 /dev/zero | "$rings" | diff - <(echo "refused 1 at 0")
-head -c 48012 /dev/zero | "$rings" | diff - <(echo "too long")
+head -c 56011 /dev/zero | "$rings" | diff - <(echo "refused 1 at 0")
+head -c 56012 /dev/zero | "$rings" | diff - <(echo "too long")
 head -c 1000000 /dev/zero >target/long-input
 "$rings" <target/long-input | diff - <(echo "too long")
 "$rings" </dev/null | diff - <(echo "refused 1 at 0")

@@ -19,15 +19,19 @@ can be described that has to be sent back.
 
     stored T MILES, F MILES
 
-makes it a register of version 2, which stores two distances, right or wrong, with two decimals, or 'none' for zero. Without
-this line it is of version 1.
+makes it a register of version 2, which stores two distances, right or wrong, with two decimals, or 'none' for zero.
+
+    year T MILES, F MILES
+
+makes it one of version 3, which stores them too, and whose cards may have two more numbers: the first and the last day on which
+they are in force, 1 and 366 if they are left out. Without either line it is of version 1.
 
 A file of cases has for each case:
 
     case LABEL       the line that is printed before the result
     room N           a call with an answer buffer of N bytes; without this line, the listing
     cards            as above, 'N * ' before a card stands for N such cards with rising numbers
-    stored ..        as above
+    stored .., year ..    as above
     hex BYTES        the register as it is, instead of cards; also 'zeros N'
     = LINE           a line of the result that is expected
 """
@@ -40,6 +44,10 @@ from pathlib import Path
 WORDS = [{"toxic": 1, "flammable": 2}, {"gas": 1, "pressurized": 2, "refrigerated": 3, "liquid": 4, "solution": 5},
          {"rural": 1, "urban": 2}, {"open": 0, "dike": 1, "building": 2, "shed-with-doors": 3}]
 SOLUTION = WORDS[1]["solution"]
+# by a register's version, the bytes before its first card and those of a card
+LAYOUTS = {1: (7, 24), 2: (11, 24), 3: (11, 28)}
+HEADERS = {"stored": 2, "year": 3}
+WHOLE_YEAR = (1, 366)
 LISTING = 65535
 
 
@@ -67,11 +75,14 @@ def field(place, word):
 
 
 def card(line):
+    """A card's bytes without a season, and its season if it has one."""
     words = line.split()
-    if len(words) != 10:
-        sys.exit(f"ten fields make a card: {line}")
+    if len(words) not in (10, 12):
+        sys.exit(f"ten fields make a card, twelve one with a season: {line}")
     try:
-        return packed([field(i, word) for i, word in enumerate(words)])
+        days = tuple(int(word) for word in words[10:])
+        struct.pack(f">{len(days)}H", *days)
+        return packed([field(i, word) for i, word in enumerate(words[:10])]), days
     except (ValueError, struct.error) as error:
         sys.exit(f"{error}: {line}")
 
@@ -81,8 +92,9 @@ def cards(line):
     count, star, rest = line.partition(" * ")
     if not star:
         return [card(line)]
-    first = unpacked(card(rest))
-    return [packed([*first[:9], first[9] + i]) for i in range(int(count))]
+    data, days = card(rest)
+    first = unpacked(data)
+    return [(packed([*first[:9], first[9] + i]), days) for i in range(int(count))]
 
 
 def hundredths(miles):
@@ -94,22 +106,27 @@ def hundredths(miles):
     return int(miles.replace(".", ""))
 
 
-def distances(line):
-    """The bytes of the two distances that a line tells."""
-    told = re.fullmatch(r"stored T (\S+), F (\S+)", line)
+def header(line):
+    """The version that a line tells, and the bytes of its two distances; nothing if it is no such line."""
+    word = line.partition(" ")[0]
+    if word not in HEADERS:
+        return None
+    told = re.fullmatch(word + r" T (\S+), F (\S+)", line)
     if not told:
-        sys.exit(f"stored T MILES, F MILES: {line}")
+        sys.exit(f"{word} T MILES, F MILES: {line}")
     try:
-        return struct.pack(">HH", *map(hundredths, told.groups()))
+        return HEADERS[word], struct.pack(">HH", *map(hundredths, told.groups()))
     except struct.error as error:
         sys.exit(f"{error}: {line}")
 
 
-def register(found, stored=None):
-    """The register of these cards: of version 2 where it stores distances."""
-    version, behind = (1, b"") if stored is None else (2, stored)
-    body = behind + b"".join(found)
-    return struct.pack(">IBH", 7 + len(body), version, len(found)) + body
+def register(found, told=None):
+    """The register of these cards: of version 1 where no line told what it stores."""
+    version, stored = told or (1, b"")
+    if version != 3 and any(days for _, days in found):
+        sys.exit("a card has a season, and its register is not of version 3")
+    body = b"".join(data + (struct.pack(">HH", *(days or WHOLE_YEAR)) if version == 3 else b"") for data, days in found)
+    return struct.pack(">IBH", 7 + len(stored) + len(body), version, len(found)) + stored + body
 
 
 def lines_of(path):
@@ -120,13 +137,13 @@ def lines_of(path):
 
 
 def described(path):
-    found, stored = [], None
+    found, told = [], None
     for line in lines_of(path):
-        if line.startswith("stored "):
-            stored = distances(line)
+        if header(line):
+            told = header(line)
         else:
             found += cards(line)
-    return register(found, stored)
+    return register(found, told)
 
 
 def miles(stored):
@@ -136,19 +153,22 @@ def miles(stored):
 def shown(data):
     """A description of the register that the header announces; what stands behind it is not looked at."""
     length, version, count = struct.unpack(">IBH", data[:7])
-    start = {1: 7, 2: 11}.get(version, 0)
-    if start == 0 or not length == len(data) == start + 24 * count:
+    start, size = LAYOUTS.get(version, (0, 0))
+    if start == 0 or not length == len(data) == start + size * count:
         sys.exit("this is no register: its length, version or count is wrong")
     names = [{number: word for word, number in words.items()} for words in WORDS]
-    text = "# kind state ground containment cas pounds area wall temperature number\n"
-    if version == 2:
-        toxic, flammable = struct.unpack(">HH", data[7:11])
-        text += f"stored T {miles(toxic)}, F {miles(flammable)}\n"
-    for at in range(start, length, 24):
+    text = "# kind state ground containment cas pounds area wall temperature number"
+    text += " first last\n" if version == 3 else "\n"
+    for word, told in HEADERS.items():
+        if version == told:
+            toxic, flammable = struct.unpack(">HH", data[7:11])
+            text += f"{word} T {miles(toxic)}, F {miles(flammable)}\n"
+    for at in range(start, length, size):
         values = list(unpacked(data[at:at + 24]))
         if values[0] == 2 and values[1:4] == [0, 0, 0]:
             values[1:4] = ["-", "-", "-"]
         words = [names[i].get(v, v) if i < len(names) else v for i, v in enumerate(values)]
+        words += struct.unpack(">HH", data[at + 24:at + 28]) if version == 3 else []
         text += " ".join(str(word) for word in words) + "\n"
     return text.encode()
 
@@ -160,7 +180,7 @@ def run(path):
     def ended():
         if case is None:
             return b""
-        data = case["raw"] if case["raw"] is not None else register(case["cards"], case["stored"])
+        data = case["raw"] if case["raw"] is not None else register(case["cards"], case["told"])
         label = case["label"].encode()
         return struct.pack(">H", len(label)) + label + struct.pack(">HH", case["room"], len(data)) + data
 
@@ -171,7 +191,7 @@ def run(path):
             continue
         if word == "case":
             given += ended()
-            case = {"label": rest, "room": LISTING, "cards": [], "stored": None, "raw": None}
+            case = {"label": rest, "room": LISTING, "cards": [], "told": None, "raw": None}
             expected += f"# {rest}\n"
         elif word == "room":
             case["room"] = int(rest)
@@ -179,8 +199,8 @@ def run(path):
             case["raw"] = bytes.fromhex(rest)
         elif word == "zeros":
             case["raw"] = bytes(int(rest))
-        elif word == "stored":
-            case["stored"] = distances(line)
+        elif header(line):
+            case["told"] = header(line)
         elif word == "=":
             expected += f"{rest}\n"
         else:

@@ -3,7 +3,7 @@
 //!
 //! `cargo bench --bench edits` prints one table in markdown, a line for each edit and each number of cards. The card that is
 //! edited stands in the middle. It is added to the other cards, replaced by another, or withdrawn; the register is of
-//! version 2, and the cards are counted with this one. The buffer has room for them and no more. Answering takes the register
+//! version 3, and the cards are counted with this one. The buffer has room for them and no more. Answering takes the register
 //! with all cards, so that it can be seen what an edit costs beside one look at each of them.
 //!
 //! As in the benchmark of the rings, a pass goes once through many different registers that lie end to end, told is the
@@ -12,9 +12,10 @@
 
 mod timing;
 
-use rings_second::reference::{Refused, ANSWER_LEN, CARD_LEN, STORED_HEADER_LEN};
+use rings_second::reference::{Refused, ANSWER_LEN, SEASONAL_CARD_LEN, STORED_HEADER_LEN};
 use rings_second::samples::edits::Edit;
-use rings_second::samples::{accepted_cards, as_version_2, register, Card, Rng};
+use rings_second::samples::seasons::any_season;
+use rings_second::samples::{accepted_cards, as_version_3, register, Card, Rng};
 use rings_second::{proved, reference};
 use std::hint::black_box;
 use timing::{in_turn, PASSES};
@@ -59,7 +60,7 @@ fn main() {
 }
 
 fn print_row(name: &str, work: &Work) {
-    let mut buffer = vec![0; STORED_HEADER_LEN + work.cards * CARD_LEN];
+    let mut buffer = vec![0; STORED_HEADER_LEN + work.cards * SEASONAL_CARD_LEN];
     let mut answers = vec![0; ANSWER_LEN * work.cards];
     let times = in_turn([Call::Proved, Call::Reference, Call::Answer], |call| match call {
         Call::Proved => work.edit_all(&mut buffer, by_proved),
@@ -113,22 +114,23 @@ impl Work {
         let count = LEAST_REGISTERS.max(LEAST_CARDS.div_ceil(cards));
         let mut work = Work { cards, edited: Registers::new(), whole: Registers::new(), edits: Vec::new() };
         for _ in 0..count {
-            work.push(way, &accepted_cards(&mut rng, cards), accepted_cards(&mut rng, 1)[0]);
+            work.push(&mut rng, way, cards);
         }
         work
     }
 
-    fn push(&mut self, way: Way, cards: &[Card], other: Card) {
+    fn push(&mut self, rng: &mut Rng, way: Way, count: usize) {
+        let (cards, other) = (accepted_cards(rng, count), accepted_cards(rng, 1)[0]);
         let middle = cards.len() / 2;
-        let (card, number) = (cards[middle], cards[middle].number);
+        let (card, number, season) = (cards[middle], cards[middle].number, any_season(rng));
         let others = [&cards[..middle], &cards[middle + 1..]].concat();
         let (edited, edit) = match way {
-            Way::Add => (others.as_slice(), Edit::Add(card.bytes())),
-            Way::Replace => (cards, Edit::Replace(Card { number, ..other }.bytes())),
-            Way::Withdraw => (cards, Edit::Withdraw(number)),
+            Way::Add => (&others, Edit::Add(card.in_season(season))),
+            Way::Replace => (&cards, Edit::Replace(Card { number, ..other }.in_season(season))),
+            Way::Withdraw => (&cards, Edit::Withdraw(number)),
         };
-        self.edited.push(&as_version_2(&register(edited)));
-        self.whole.push(&as_version_2(&register(cards)));
+        self.edited.push(&as_version_3(rng, &register(edited)));
+        self.whole.push(&as_version_3(rng, &register(&cards)));
         self.edits.push(edit);
     }
 

@@ -1,6 +1,6 @@
 //! The proved library, called through its C interface.
 
-use crate::reference::{Accepted, Farthest, Found, Likely, Refused, ANSWER_LEN, CARD_LEN};
+use crate::reference::{Accepted, Farthest, Found, Likely, Refused, Year, ANSWER_LEN, CARD_LEN, SEASONAL_CARD_LEN};
 
 mod c {
     extern "C" {
@@ -18,6 +18,21 @@ mod c {
             cards: usize,
             toxic: *mut u64,
             flammable: *mut u64,
+        ) -> u64;
+        pub fn rings_day(
+            register_ptr: *const u8,
+            register_len: usize,
+            day: u32,
+            toxic: *mut u64,
+            flammable: *mut u64,
+        ) -> u64;
+        pub fn rings_year(
+            register_ptr: *const u8,
+            register_len: usize,
+            toxic: *mut u64,
+            flammable: *mut u64,
+            toxic_day: *mut u64,
+            flammable_day: *mut u64,
         ) -> u64;
         pub fn rings_read_lines(
             text_ptr: *const u8,
@@ -76,6 +91,42 @@ pub fn leaders_after(register: &[u8], cards: usize) -> Result<Accepted, Refused>
 pub fn leaders_after_words(register: &[u8], cards: usize, toxic: &mut u64, flammable: &mut u64) -> u64 {
     // SAFETY: as in `answer_words`. The number of cards is no length of a buffer, and the library admits any.
     unsafe { c::rings_leaders_after(register.as_ptr(), register.len(), cards, toxic, flammable) }
+}
+
+/// The farthest cards of a register among those in force on a day, as [`crate::reference::farthest_on`] gives them.
+pub fn farthest_on(register: &[u8], day: u32) -> Result<Accepted, Refused> {
+    let (mut toxic, mut flammable) = (0, 0);
+    let code = farthest_on_words(register, day, &mut toxic, &mut flammable);
+    accepted(code, toxic, flammable)
+}
+
+/// The call as C sees it, with the words of [`answer_words`].
+#[allow(unsafe_code)]
+pub fn farthest_on_words(register: &[u8], day: u32, toxic: &mut u64, flammable: &mut u64) -> u64 {
+    // SAFETY: as in `answer_words`. The day is any number.
+    unsafe { c::rings_day(register.as_ptr(), register.len(), day, toxic, flammable) }
+}
+
+/// The farthest cards of a register in a year, with their days, as [`crate::reference::year`] gives them.
+pub fn year(register: &[u8]) -> Result<Year, Refused> {
+    let (mut rings, mut days) = ([0; 2], [0; 2]);
+    let code = year_words(register, &mut rings, &mut days);
+    let [toxic, flammable] = rings;
+    let farthest = accepted(code, toxic, flammable)?;
+    let [toxic_day, flammable_day] = days.map(|day| u16::try_from(day).expect("a day of a year"));
+    Ok(Year { farthest, toxic_day, flammable_day })
+}
+
+/// The call as C sees it: the words of [`answer_words`], toxic then flammable, and each one's day, all left alone on
+/// refusal.
+#[allow(unsafe_code)]
+pub fn year_words(
+    register: &[u8],
+    [toxic, flammable]: &mut [u64; 2],
+    [toxic_day, flammable_day]: &mut [u64; 2],
+) -> u64 {
+    // SAFETY: as in `answer_words`. The four words are parts of two arrays that are borrowed mutably, none of them twice.
+    unsafe { c::rings_year(register.as_ptr(), register.len(), toxic, flammable, toxic_day, flammable_day) }
 }
 
 /// Reads comma lines into `register`, as [`crate::reference::read_lines`] does.
@@ -143,14 +194,14 @@ pub fn is_old(answer: &[u8; ANSWER_LEN]) -> bool {
 }
 
 /// Adds a card to the register that `buffer` starts with, as [`crate::reference::add`] does.
-pub fn add(buffer: &mut [u8], card: &[u8; CARD_LEN]) -> Result<usize, Refused> {
+pub fn add(buffer: &mut [u8], card: &[u8; SEASONAL_CARD_LEN]) -> Result<usize, Refused> {
     let mut at = 0;
     let code = add_words(buffer, card, &mut at);
     converted(code, at)
 }
 
 /// Replaces the card of a card's number, as [`crate::reference::replace`] does.
-pub fn replace(buffer: &mut [u8], card: &[u8; CARD_LEN]) -> Result<usize, Refused> {
+pub fn replace(buffer: &mut [u8], card: &[u8; SEASONAL_CARD_LEN]) -> Result<usize, Refused> {
     let mut at = 0;
     let code = replace_words(buffer, card, &mut at);
     converted(code, at)
@@ -166,14 +217,14 @@ pub fn withdraw(buffer: &mut [u8], number: u32) -> Result<usize, Refused> {
 /// The call as C sees it, for tests that look at its words: 0 or a refusal's number is returned, and the word is set to
 /// the register's new length or to the refusal's place.
 #[allow(unsafe_code)]
-pub fn add_words(buffer: &mut [u8], card: &[u8; CARD_LEN], at: &mut u64) -> u64 {
-    // SAFETY: as in `answer_words`. The card has the 24 bytes that the library reads.
+pub fn add_words(buffer: &mut [u8], card: &[u8; SEASONAL_CARD_LEN], at: &mut u64) -> u64 {
+    // SAFETY: as in `answer_words`. The card has the 28 bytes that the library reads.
     unsafe { c::rings_add(buffer.as_mut_ptr(), buffer.len(), card.as_ptr(), at) }
 }
 
 /// The call as C sees it, with the words of [`add_words`].
 #[allow(unsafe_code)]
-pub fn replace_words(buffer: &mut [u8], card: &[u8; CARD_LEN], at: &mut u64) -> u64 {
+pub fn replace_words(buffer: &mut [u8], card: &[u8; SEASONAL_CARD_LEN], at: &mut u64) -> u64 {
     // SAFETY: as in `add_words`.
     unsafe { c::rings_replace(buffer.as_mut_ptr(), buffer.len(), card.as_ptr(), at) }
 }

@@ -3,7 +3,8 @@
 //! Bytes become cards ([`card`]), a toxic card a release ([`release`]), and a release a distance, read from the printed
 //! tables ([`printed`]); a flammable card's distance comes from an equation ([`blast`]). A toxic card with a rate and a
 //! duration becomes a likely distance ([`likely`]). Comma lines become registers and registers comma lines ([`lines`]).
-//! A register in a lent buffer is edited, card by card ([`edits`]); what its header may be is told by [`header`].
+//! A register in a lent buffer is edited, card by card ([`edits`]); what its header may be is told by [`header`]. On which
+//! days its cards are in force, and what is farthest on a day and in the year, is told by [`season`].
 //! What a rate would be unrounded, and how far above it the reported one may be, is told apart from all this ([`exact`]).
 
 mod blast;
@@ -16,6 +17,7 @@ mod likely;
 mod lines;
 pub mod printed;
 mod release;
+mod season;
 #[cfg(test)]
 mod tests;
 mod units;
@@ -26,21 +28,25 @@ pub use fraction::Fraction;
 pub use header::{HEADER_LEN, STORED_HEADER_LEN};
 pub use likely::{likely, Found, Likely};
 pub use lines::{read_lines, write_lines, MAX_LINE, MAX_STRICT_LINE};
+pub use season::{farthest_on, year, Year};
 
 use card::{Card, Meaning};
-use header::Register;
+use header::{Cards, Register};
 use printed::Printed;
+use season::Season;
 use std::fmt::Write as _;
 use units::{Miles, PoundsPerMinute};
 
-/// Bytes of a card.
+/// Bytes of a card without a season, in versions 1 and 2.
 pub const CARD_LEN: usize = 24;
+/// Bytes of a card with a season, in version 3.
+pub const SEASONAL_CARD_LEN: usize = CARD_LEN + 4;
 /// Bytes of a card's answer.
 pub const ANSWER_LEN: usize = 16;
 /// The most cards a register may have.
 pub const MAX_CARDS: usize = 2_000;
 /// Bytes of the longest register that can be accepted.
-pub const MAX_LEN: usize = STORED_HEADER_LEN + MAX_CARDS * CARD_LEN;
+pub const MAX_LEN: usize = STORED_HEADER_LEN + MAX_CARDS * SEASONAL_CARD_LEN;
 
 /// Where an answer has the number of its table.
 const TABLE_BYTE: usize = 5;
@@ -95,6 +101,7 @@ enum Fault {
     Duration = 18,
     Presence = 19,
     Capacity = 20,
+    Day = 21,
 }
 
 impl Fault {
@@ -114,7 +121,7 @@ impl Fault {
 /// Bytes of `out` beyond the answers are left alone, and so is all of it on refusal.
 pub fn answer(register: &[u8], out: &mut [u8]) -> Result<Accepted, Refused> {
     let register = Register::read(register)?;
-    let needed = register.cards.len() / CARD_LEN * ANSWER_LEN;
+    let needed = register.cards.count() * ANSWER_LEN;
     let slots = out.get_mut(..needed).ok_or_else(|| Fault::Buffer.of_register())?;
     // Every card is answered, and what is stored is looked at, before a byte is written.
     let answers = answers(register.cards)?;
@@ -132,8 +139,8 @@ pub fn answer(register: &[u8], out: &mut [u8]) -> Result<Accepted, Refused> {
 /// lent, and none can be too short.
 pub fn leaders_after(register: &[u8], cards: usize) -> Result<Accepted, Refused> {
     let (_, answers) = accepted(register)?;
-    let first = &answers[..cards.min(answers.len())];
-    Ok(Accepted { toxic: leader(first, Class::Toxic), flammable: leader(first, Class::Flammable) })
+    let first = || answers.iter().take(cards);
+    Ok(Accepted { toxic: leader(first(), Class::Toxic), flammable: leader(first(), Class::Flammable) })
 }
 
 /// Whether a stored answer is old: a blast that was still read from Table 13. No other of its bytes counts.
@@ -160,10 +167,11 @@ fn accepted(register: &[u8]) -> Result<(Register<'_>, Vec<Answer>), Refused> {
     Ok((register, answers))
 }
 
-/// A card's answer, and its class for the ranking.
+/// A card's answer, its class for the ranking, and when it is in force.
 struct Answer {
     number: u32,
     class: Class,
+    season: Season,
     route: u8,
     table: u8,
     rate: PoundsPerMinute,
@@ -189,11 +197,11 @@ impl Answer {
 }
 
 /// The checks of each card in turn, with the answers if all pass.
-fn answers(cards: &[u8]) -> Result<Vec<Answer>, Refused> {
+fn answers(cards: Cards) -> Result<Vec<Answer>, Refused> {
     let printed = printed::printed();
-    let mut answers = Vec::with_capacity(cards.len() / CARD_LEN);
+    let mut answers = Vec::with_capacity(cards.count());
     let mut last_number = 0;
-    for (bytes, place) in cards.chunks_exact(CARD_LEN).zip(0..) {
+    for (bytes, place) in cards.each().zip(0..) {
         let card = Card::read(bytes, last_number, printed).map_err(|fault| fault.at(place))?;
         last_number = card.number;
         answers.push(answer_of(&card, printed).map_err(|fault| fault.at(place))?);
@@ -209,6 +217,7 @@ fn answer_of(card: &Card, printed: &Printed) -> Result<Answer, Fault> {
             Ok(Answer {
                 number: card.number,
                 class: Class::Toxic,
+                season: card.season,
                 route: release.route as u8,
                 table: table.number(),
                 rate: release.rate,
@@ -218,6 +227,7 @@ fn answer_of(card: &Card, printed: &Printed) -> Result<Answer, Fault> {
         Meaning::Flammable { substance, pounds } => Ok(Answer {
             number: card.number,
             class: Class::Flammable,
+            season: card.season,
             route: release::Route::Blast as u8,
             table: blast::NO_TABLE,
             rate: PoundsPerMinute::NONE,
@@ -243,10 +253,10 @@ fn farthest(answers: &[Answer]) -> Accepted {
 
 /// The class's largest distance, then the first card that has it: a second opinion on [`farthest`], which keeps leaders
 /// on one walk as the proved library does.
-fn leader(answers: &[Answer], class: Class) -> Option<Farthest> {
-    let of_class = || answers.iter().filter(|answer| answer.class == class);
-    let miles = of_class().map(|answer| answer.miles).max()?;
-    let first = of_class().find(|answer| answer.miles == miles)?;
+fn leader<'a>(answers: impl Iterator<Item = &'a Answer> + Clone, class: Class) -> Option<Farthest> {
+    let mut of_class = answers.filter(|answer| answer.class == class);
+    let miles = of_class.clone().map(|answer| answer.miles).max()?;
+    let first = of_class.find(|answer| answer.miles == miles)?;
     Some(Farthest { card: first.number, miles: miles.hundredths() })
 }
 

@@ -4,9 +4,14 @@
 pub mod blasts;
 pub mod edits;
 pub mod lines;
+pub mod seasons;
 
 use crate::reference::printed::{printed, Factor, LiquidFactors, Phase, Plume, Solute, Toxic};
-use crate::reference::{self, Accepted, Farthest, ANSWER_LEN, CARD_LEN, HEADER_LEN, STORED_HEADER_LEN};
+use crate::reference::{
+    self, Accepted, Farthest, ANSWER_LEN, CARD_LEN, HEADER_LEN, SEASONAL_CARD_LEN, STORED_HEADER_LEN,
+};
+use seasons::Season;
+use std::slice::ChunksExact;
 
 /// The most pounds a card may have.
 pub const MAX_POUNDS: u32 = 10_000_000;
@@ -110,7 +115,7 @@ pub struct Card {
 }
 
 impl Card {
-    /// The card as it stands in a register.
+    /// The card as it stands in a register of version 1 or 2.
     pub fn bytes(&self) -> [u8; CARD_LEN] {
         let mut bytes = [0; CARD_LEN];
         bytes[..4].copy_from_slice(&[self.kind, self.state, self.ground, self.containment]);
@@ -122,6 +127,11 @@ impl Card {
         bytes[20..].copy_from_slice(&self.number.to_be_bytes());
         bytes
     }
+
+    /// The card as it stands in a register of version 3.
+    pub fn in_season(&self, season: Season) -> [u8; SEASONAL_CARD_LEN] {
+        season.behind(&self.bytes())
+    }
 }
 
 /// A register of cards, with a header that fits them.
@@ -132,30 +142,39 @@ pub fn register(cards: &[Card]) -> Vec<u8> {
 
 /// The same of cards as they stand in it.
 pub fn register_of_bytes(cards: &[[u8; CARD_LEN]]) -> Vec<u8> {
-    let length = HEADER_LEN + cards.len() * CARD_LEN;
-    let mut bytes = Vec::with_capacity(length);
-    bytes.extend((length as u32).to_be_bytes());
-    bytes.push(1);
-    bytes.extend((cards.len() as u16).to_be_bytes());
-    bytes.extend(cards.as_flattened());
-    bytes
+    laid(1, cards.len(), &[], cards.as_flattened())
 }
 
 /// A register of version 2 that stores two distances, toxic then flammable, right or wrong; its header fits the cards.
 pub fn stored_register(cards: &[[u8; CARD_LEN]], distances: [u16; 2]) -> Vec<u8> {
-    let length = STORED_HEADER_LEN + cards.len() * CARD_LEN;
+    laid(2, cards.len(), distances.map(u16::to_be_bytes).as_flattened(), cards.as_flattened())
+}
+
+/// The same of version 3.
+pub fn seasonal_register(cards: &[[u8; SEASONAL_CARD_LEN]], distances: [u16; 2]) -> Vec<u8> {
+    laid(3, cards.len(), distances.map(u16::to_be_bytes).as_flattened(), cards.as_flattened())
+}
+
+/// Length, version and count, then what is stored, then the cards.
+fn laid(version: u8, count: usize, stored: &[u8], cards: &[u8]) -> Vec<u8> {
+    let length = HEADER_LEN + stored.len() + cards.len();
     let mut bytes = Vec::with_capacity(length);
     bytes.extend((length as u32).to_be_bytes());
-    bytes.push(2);
-    bytes.extend((cards.len() as u16).to_be_bytes());
-    bytes.extend(distances.map(u16::to_be_bytes).as_flattened());
-    bytes.extend(cards.as_flattened());
+    bytes.push(version);
+    bytes.extend((count as u16).to_be_bytes());
+    bytes.extend(stored);
+    bytes.extend(cards);
     bytes
 }
 
 /// The same register in version 2, with the distances that the reference finds: none where it refuses the cards.
 pub fn as_version_2(register: &[u8]) -> Vec<u8> {
-    stored_register(cards_of(register), farthest_distances(register))
+    stored_register(&plain_cards(register), farthest_distances(register))
+}
+
+/// The same in version 3, each card in a season of its own. A season has always a day, so the distances are the same.
+pub fn as_version_3(rng: &mut Rng, register: &[u8]) -> Vec<u8> {
+    seasonal_register(&seasonal_cards(rng, register), farthest_distances(register))
 }
 
 /// The distances of a register's farthest cards, toxic then flammable: zero for none, and where it is refused.
@@ -164,17 +183,34 @@ pub fn farthest_distances(register: &[u8]) -> [u16; 2] {
     [toxic, flammable].map(|farthest: Option<Farthest>| farthest.map_or(0, |farthest| farthest.miles))
 }
 
-/// The whole cards behind the header that a register's version has, however many it counts.
-pub fn cards_of(register: &[u8]) -> &[[u8; CARD_LEN]] {
-    let (cards, _) = register.get(header_len(register)..).unwrap_or_default().as_chunks();
-    cards
+/// The whole cards behind the header that a register's version has, as long as its version has them, however many it counts.
+pub fn cards_of(register: &[u8]) -> ChunksExact<'_, u8> {
+    register.get(header_len(register)..).unwrap_or_default().chunks_exact(card_len(register))
 }
 
-/// The bytes before a register's first card, as its version says: 7, or 11 in version 2.
+/// The cards of a register without their seasons.
+pub fn plain_cards(register: &[u8]) -> Vec<[u8; CARD_LEN]> {
+    cards_of(register).map(|card| *card.first_chunk().expect("24 bytes at least")).collect()
+}
+
+/// The cards of a register, each in a season of its own.
+pub fn seasonal_cards(rng: &mut Rng, register: &[u8]) -> Vec<[u8; SEASONAL_CARD_LEN]> {
+    plain_cards(register).iter().map(|card| seasons::any_season(rng).behind(card)).collect()
+}
+
+/// The bytes before a register's first card, as its version says: 7, or 11 in versions 2 and 3.
 pub fn header_len(register: &[u8]) -> usize {
     match register.get(4) {
-        Some(2) => STORED_HEADER_LEN,
+        Some(2 | 3) => STORED_HEADER_LEN,
         _ => HEADER_LEN,
+    }
+}
+
+/// The bytes of a register's card, as its version says: 24, or 28 in version 3.
+pub fn card_len(register: &[u8]) -> usize {
+    match register.get(4) {
+        Some(3) => SEASONAL_CARD_LEN,
+        _ => CARD_LEN,
     }
 }
 

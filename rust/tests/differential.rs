@@ -4,11 +4,13 @@
 //! on refusal. Then each register is written as comma lines, with the same care, and the lines of an accepted one are
 //! read back. The leaders after the first cards are compared in `prefixes`, on other registers made in the same ways,
 //! sheds with doors beside buildings in `sheds`, blasts at every step of their rings in `blasts`, likely scenarios, card by
-//! card, in `likely`, and edits in `edits`. Each accepted card's rate is held to its bound, and `rates` aims at the bounds.
-//! One register in three is of version 2, and `versions` holds it to the same cards in version 1.
+//! card, in `likely`, edits in `edits`, and the rings of days and of years in `days`. Each accepted card's rate is held to its
+//! bound, and `rates` aims at the bounds. One register in three is of version 2 and one of version 3, and `versions` holds
+//! both to the same cards in version 1.
 //! Run with `cargo test --release --test differential -- --nocapture` to see the counts.
 
 mod blasts;
+mod days;
 mod edits;
 mod lent;
 mod likely;
@@ -21,8 +23,9 @@ use lent::{hex, Lent, READ_LINES, WRITE_LINES};
 use rates::Rates;
 use rings_second::proved;
 use rings_second::reference::printed::{printed, Factor, Phase, Solute, Toxic};
-use rings_second::reference::{self, Farthest, Refused, ANSWER_LEN, HEADER_LEN, MAX_CARDS, MAX_STRICT_LINE};
-use rings_second::samples::{self, cards_of, farthest_distances, highest_concentration, Card, Rng};
+use rings_second::reference::{self, Farthest, Refused, ANSWER_LEN, CARD_LEN, HEADER_LEN, MAX_CARDS, MAX_STRICT_LINE};
+use rings_second::samples::seasons::wrong_season;
+use rings_second::samples::{self, cards_of, farthest_distances, highest_concentration, plain_cards, Card, Rng};
 use rings_second::samples::{BUILDING, MAX_AREA, MAX_POUNDS, MAX_WALL, SHED_WITH_DOORS, SOLUTION};
 use std::collections::BTreeMap;
 use versions::Versions;
@@ -35,13 +38,13 @@ const LEAST_OF_EACH: usize = 1_000;
 const LEAST_WITH_SOLUTIONS: usize = 400_000;
 
 /// How often each refusal was met, by its number.
-type Refusals = [usize; 21];
+type Refusals = [usize; 22];
 
 /// The refusals that a register is never answered with: they are of comma lines alone, of likely scenarios, or of edits.
 const NOT_OF_ANSWERS: [usize; 6] = [12, 13, 17, 18, 19, 20];
 /// The refusals that a register is never written with: the writer has neither an answer buffer nor a line to read, nor is
-/// it supplied with a rate or an edit.
-const NOT_OF_WRITING: [usize; 6] = [4, 12, 17, 18, 19, 20];
+/// it supplied with a rate or an edit, and no season stands in version 1.
+const NOT_OF_WRITING: [usize; 7] = [4, 12, 17, 18, 19, 20, 21];
 
 #[test]
 fn the_proved_library_and_the_reference_agree() {
@@ -138,7 +141,7 @@ impl Comparison {
         self.solutions.count(ours.err(), register);
         self.versions.hold(register, self.answers.theirs(), met, untouched);
         let written = self.lines.compare(&mut self.rng, register);
-        let is_to_be_written = ours.is_ok() && !versions::is_version_2(register);
+        let is_to_be_written = ours.is_ok() && versions::version(register) == Some(1);
         assert!(written || !is_to_be_written, "an accepted register was not written: {}", hex(register));
         ours.err()
     }
@@ -148,12 +151,11 @@ impl Comparison {
             Some(Refused { number, .. }) => self.refused[usize::from(number)] += 1,
             None => {
                 self.accepted += 1;
-                let cards = cards_of(register).iter();
-                for (card, answer) in cards.zip(self.answers.theirs().chunks_exact(ANSWER_LEN)) {
+                for (card, answer) in cards_of(register).zip(self.answers.theirs().chunks_exact(ANSWER_LEN)) {
                     self.routes[usize::from(answer[4])] += 1;
                     self.tables[usize::from(answer[5])] += 1;
                     self.held[usize::from(card[3])] += usize::from(card[0] == 1);
-                    self.rates.hold(card, answer);
+                    self.rates.hold(&card[..CARD_LEN], answer);
                     let answer = answer.try_into().expect("sixteen bytes");
                     assert!(!reference::is_old(answer) && !proved::is_old(answer), "an old answer: {}", hex(answer));
                 }
@@ -202,8 +204,7 @@ struct Solutions {
 
 impl Solutions {
     fn count(&mut self, refused: Option<Refused>, register: &[u8]) {
-        let cards = cards_of(register).iter().map(|card| card.as_slice());
-        let solutions: Vec<&[u8]> = cards.filter(|card| card[..2] == [1, SOLUTION]).collect();
+        let solutions: Vec<&[u8]> = cards_of(register).filter(|card| card[..2] == [1, SOLUTION]).collect();
         if solutions.is_empty() {
             return;
         }
@@ -523,8 +524,8 @@ fn case_of(rng: &mut Rng, mut cards: Vec<Card>) -> (Vec<u8>, usize) {
         }
     }
     let mut register = samples::register(&cards);
-    if rng.one_in(3) {
-        register = in_version_2(rng, &register);
+    if !rng.one_in(3) {
+        register = in_later_version(rng, &register);
     }
     if plan >= 88 {
         damage(rng, &mut register);
@@ -538,13 +539,23 @@ fn case_of(rng: &mut Rng, mut cards: Vec<Card>) -> (Vec<u8>, usize) {
     (register, buffer_len)
 }
 
-/// The same cards in version 2, with the right distances for the most part.
-fn in_version_2(rng: &mut Rng, register: &[u8]) -> Vec<u8> {
+/// The same cards in version 2 or, each in a season of its own, in version 3; with the right distances for the most part, and
+/// seasons in range.
+fn in_later_version(rng: &mut Rng, register: &[u8]) -> Vec<u8> {
     let mut distances = farthest_distances(register);
     if rng.one_in(5) {
         spoil_distances(rng, &mut distances);
     }
-    samples::stored_register(cards_of(register), distances)
+    if rng.one_in(2) {
+        return samples::stored_register(&plain_cards(register), distances);
+    }
+    let mut cards = samples::seasonal_cards(rng, register);
+    if !cards.is_empty() && rng.one_in(12) {
+        let season = wrong_season(rng);
+        let card = rng.pick_mut(&mut cards);
+        *card = season.behind(card.first_chunk().expect("24 bytes"));
+    }
+    samples::seasonal_register(&cards, distances)
 }
 
 /// One of the two a little off, none, any, or both exchanged, which may leave them as they were.
@@ -702,7 +713,7 @@ fn beyond_the_table(rng: &mut Rng, card: Card) -> Card {
 
 /// Bytes changed, lost or added, sometimes with a length field that fits again.
 fn damage(rng: &mut Rng, register: &mut Vec<u8>) {
-    match rng.below(10) {
+    match rng.below(11) {
         0 => register.truncate(rng.below(register.len() as u64 + 1) as usize),
         1 => register.truncate(register.len().saturating_sub(1 + rng.below(24) as usize)),
         2 => {
@@ -711,12 +722,12 @@ fn damage(rng: &mut Rng, register: &mut Vec<u8>) {
             }
         }
         3 => register[..4].copy_from_slice(&(rng.bits() as u32 >> rng.below(32)).to_be_bytes()),
-        4 => register[4] = *rng.pick(&[0, 1, 2, 3, 9, 255]),
-        5 => {
+        4 | 5 => register[4] = *rng.pick(&[0, 1, 2, 3, 4, 5, 9, 128, 255]),
+        6 => {
             let count = *rng.pick(&[0, 1, 2, 3, 2_000, 2_001, u16::MAX]);
             register[5..7].copy_from_slice(&count.to_be_bytes());
         }
-        6 => *register = (0..rng.below(40)).map(|_| rng.bits() as u8).collect(),
+        7 => *register = (0..rng.below(40)).map(|_| rng.bits() as u8).collect(),
         _ => {
             for _ in 0..=rng.below(3) {
                 let place = rng.below(register.len() as u64) as usize;

@@ -1,7 +1,7 @@
--- A register that is laid from cards that pass is accepted, has these cards, and stores the distances of their leaders; and a buffer that
--- starts with it holds it.
+-- A register that is laid from cards that pass is accepted, has these cards, each as version 3 has it, and stores the distances of their
+-- leaders; and a buffer that starts with it holds it.
 -- Assumes nothing.
-use Rattle.std.specs.Prelude.{ℕ, zero, suc, ◌*◌, ◌^◌, ◌≤◌, ◌<◌, ◌≡◌, refl, false, List, ◌++◌, length, take, drop, Option, Some, None, Ok}
+use Rattle.std.specs.Prelude.{ℕ, zero, suc, ◌+◌, ◌*◌, ◌^◌, ◌≤◌, ◌<◌, ◌≡◌, refl, false, List, ◌++◌, map, length, take, drop, Option, Some, None, Ok}
 use Rattle.std.specs.List.{concat}
 use Rattle.std.specs.Simd.{first_chunks}
 use Rattle.std.proofs.Common.{arith, ◌∙◌, sym, ap, ap₂, subst, le-ltb, eq-eqb, take_at, drop_at}
@@ -14,13 +14,16 @@ use Rattle.farthest.specs.declared.Leader.{Leader}
 use Rattle.farthest.specs.Farthest.{At, farthest_of, leaders_of}
 use Rattle.farthest.proofs.Laws.{leads, leaders_toxic, leaders_flammable}
 use Rattle.header.specs.declared.Layout.{Layout}
-use Rattle.header.specs.Header.{version_of, count_of, stored_at, layout_of, laid, layout_in, size_of, cards_in, stored_if, stored_in, enough, bad_length, bad_version, bad_count, bad_buffer, unknown, header_of}
+use Rattle.header.specs.Header.{version_of, count_of, stored_at, third_layout, layout_of, laid, layout_in, size_of, cards_in, stored_if, stored_in, enough, bad_length, bad_version, bad_count, bad_buffer, unknown, header_of}
 use Rattle.header.specs.InTurn.{Sized}
+use Rattle.seasons.specs.Seasons.{grown}
 use Rattle.cards.specs.Distances.{distance_in, wrong_for}
 use Rattle.cards.specs.Register.{answers, cards_from, unless_wrong, settled, cards_of, result_of, outcome_of}
 use Rattle.distances.proofs.Fits.{distance_fits}
-use Rattle.edits.specs.Edits.{edit_version, edit_layout, header_bytes, register_of, held}
+use Rattle.edits.specs.Edits.{edit_version, header_bytes, register_of, held}
 use Rattle.edits.proofs.Rising.{Passes, passed_all, passed_one, passes}
+use Rattle.edits.specs.Around.{AllGiven}
+use Rattle.edits.proofs.Growing.{grown_count, grown_sized, grown_from}
 use Rattle.edits.proofs.Lists.{bytes_length, chunks_back}
 
 -- ---- distances fit two bytes
@@ -41,7 +44,7 @@ leader_fits c xs p = go (farthest_of c xs) refl
 
 -- ---- the register
 
-module _ (cards : List (List ℕ)) (xs : List Answer) (sized : Sized edit_layout.card cards) (few : length cards ≤ 2_000) (check : cards_from 0 0 cards ≡ answers xs) where
+module _ (cards : List (List ℕ)) (xs : List Answer) (given : AllGiven cards) (few : length cards ≤ 2_000) (check : cards_from 0 0 cards ≡ answers xs) where
   abbrev register : List ℕ
   register = register_of cards (leaders_of xs)
 
@@ -59,12 +62,19 @@ module _ (cards : List (List ℕ)) (xs : List Answer) (sized : Sized edit_layout
   unfolding flammable
   flammable_fits = subst (λ f. distance_in f < 2 ^ 16) (sym (leaders_flammable xs)) (leader_fits class.Flammable xs (passes 0 0 cards xs check))
 
-  pub length_is : length register ≡ size_of edit_layout (length cards)
+  -- its cards, each as version 3 has it
+  abbrev now : List (List ℕ)
+  now = map grown cards
+
+  sized : Sized 28 now
+  sized = grown_sized cards given
+
+  pub length_is : length register ≡ 11 + 28 * length cards
   unfolding register_of header_bytes four_bytes two_bytes
-  length_is = omega (arith, bytes_length edit_layout.card cards sized)
+  length_is = omega (arith, bytes_length 28 now sized, grown_count cards)
 
   -- what is read off it, from the front
-  field_is : four_at register 0 ≡ size_of edit_layout (length cards)
+  field_is : four_at register 0 ≡ 11 + 28 * length cards
   unfolding register_of header_bytes four_bytes two_bytes
   field_is = omega (arith, few)
 
@@ -76,6 +86,9 @@ module _ (cards : List (List ℕ)) (xs : List Answer) (sized : Sized edit_layout
   unfolding register_of header_bytes four_bytes two_bytes
   count_is = omega (arith, few)
 
+  pub size_is : length register ≡ 11 + 28 * count_of register
+  size_is = length_is ∙ ap (λ n. 11 + 28 * n) (sym count_is)
+
   toxic_is : two_at register 7 ≡ toxic
   unfolding register_of header_bytes four_bytes two_bytes toxic
   toxic_is = let h = toxic_fits in omega (arith, h)
@@ -84,20 +97,20 @@ module _ (cards : List (List ℕ)) (xs : List Answer) (sized : Sized edit_layout
   unfolding register_of header_bytes four_bytes two_bytes flammable
   flammable_is = let h = flammable_fits in omega (arith, h)
 
-  behind : drop 11 register ≡ concat cards
+  behind : drop 11 register ≡ concat now
   unfolding register_of header_bytes four_bytes two_bytes
   behind = refl
 
-  layout_is : layout_in register ≡ edit_layout
+  layout_is : layout_in register ≡ third_layout
   unfolding layout_in layout_of
   layout_is = ap (λ v. laid (layout_of v)) version_is
 
   -- so its cards are these
-  pub cards_are : cards_in register ≡ cards
+  pub cards_are : cards_in register ≡ now
   unfolding cards_in
   cards_are =
       ap (λ (l : Layout). first_chunks l.card (count_of register) (drop l.header register)) layout_is
-      ∙ (ap₂ (λ n (b : List ℕ). first_chunks edit_layout.card n b) count_is behind ∙ chunks_back edit_layout.card cards sized)
+      ∙ (ap₂ (λ n (b : List ℕ). first_chunks 28 n b) (count_is ∙ sym (grown_count cards)) behind ∙ chunks_back 28 now sized)
 
   -- and what it stores is right
   right : wrong_for (stored_in register) (leaders_of xs) ≡ false
@@ -132,7 +145,7 @@ module _ (cards : List (List ℕ)) (xs : List Answer) (sized : Sized edit_layout
   accepts =
       rw (whole, known, counted, roomy)
       (ap result_of
-      (ap (settled (stored_in register)) (ap (cards_from 0 0) cards_are ∙ check)
+      (ap (settled (stored_in register)) (ap (cards_from 0 0) cards_are ∙ (grown_from 0 0 cards given ∙ check))
       ∙ ap (λ b. unless_wrong b xs) right))
 
   -- a buffer that starts with it holds it

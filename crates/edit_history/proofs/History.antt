@@ -1,6 +1,6 @@
--- Document 02, A9, proved: what a list of edits leaves in a buffer, one edit after the other.
+-- Document 02, A9 and A10, proved: what a list of edits leaves in a buffer, one edit after the other.
 -- Assumes nothing.
-use Rattle.std.specs.Prelude.{ℕ, ◌-◌, ◌≤◌, ◌≡◌, refl, Bool, true, false, List, [], ◌∷◌, ◌++◌, ltb, length, drop, replicate, ◌⊎◌, Result, Ok, Err, Contains}
+use Rattle.std.specs.Prelude.{ℕ, ◌+◌, ◌-◌, ◌*◌, ◌≤◌, ◌≡◌, refl, Bool, true, false, List, [], ◌∷◌, ◌++◌, map, ltb, length, drop, replicate, ◌⊎◌, Result, Ok, Err, Contains}
 use Rattle.std.proofs.Common.{arith, ◌∙◌, sym, ap, ap₂, subst, inl, inr, ⊎_elim, ltb-false, length-append}
 use Rattle.std.proofs.lemmas.Bool.Decides.{nat_tests}
 use Rattle.std.proofs.lemmas.List.{length-replicate}
@@ -13,17 +13,20 @@ use Rattle.card.specs.declared.Answer.{Answer}
 use Rattle.farthest.specs.declared.Leaders.{Leaders}
 use Rattle.farthest.specs.Farthest.{leaders_of}
 use Rattle.card.specs.declared.Class.TheVariants as class
-use Rattle.header.specs.Header.{version_of, stored_at, layout_in, size_of, cards_in, stored_if, stored_in, enough}
+use Rattle.header.specs.Header.{version_of, count_of, stored_at, layout_in, size_of, cards_in, stored_if, stored_in, enough}
 use Rattle.cards.specs.Distances.{distance_in, distances_of, differ, wrong_for}
 use Rattle.cards.specs.Register.{Cards, answers, sent_back, cards_from, outcome_of}
 use Rattle.cards.proofs.Laws.{accepted_fits}
-use Rattle.header.specs.InTurn.{Sized}
+use Rattle.seasons.specs.Seasons.{grown, Given}
+use Rattle.card.proofs.Grown.{newer, grown_long}
 use Rattle.ordering.proofs.Found.{found}
 use Rattle.conditions.proofs.Afresh.{afresh}
-use Rattle.edits.specs.Edits.{Edit, add, replace, withdraw, named, takes, brings, edited, is_there, bad_presence, bad_capacity, edit_layout, register_of, laid, register_with, held, unless_bad, changed, after_old, register_by, register_after, length_of, left_by, buffer_after}
-use Rattle.edits.proofs.Lists.{sized_none, sized_more, cards_sized, sized_edited, unnamed}
-use Rattle.edit_history.specs.Claim.{WholeCard, after_all, join_if, accepted, applied, StartsAccepted, Afresh, Renewed, Upheld, EditsKept, RefusedKept, LengthTold}
-use Rattle.edit_history.proofs.Back.{length_is, version_is, cards_are, accepts, held_back, rest_back}
+use Rattle.edits.specs.Edits.{Edit, add, replace, withdraw, named, takes, brings, with_number, edited, is_there, bad_presence, bad_capacity, edit_layout, register_of, laid, register_with, held, unless_bad, changed, after_old, register_by, register_after, length_of, left_by, buffer_after}
+use Rattle.edits.specs.Around.{AllGiven}
+use Rattle.edits.proofs.Growing.{grown_sized, grown_number, each_there}
+use Rattle.edits.proofs.Lists.{each_none, each_more, each_with, cards_given, unnamed_stays, unnamed_was}
+use Rattle.edit_history.specs.Claim.{WholeCard, after_all, join_if, accepted, applied, NotNamed, kept, StartsAccepted, Afresh, Renewed, Upheld, EditsKept, RefusedKept, LengthTold}
+use Rattle.edit_history.proofs.Back.{length_is, size_is, version_is, cards_are, accepts, held_back, rest_back}
 
 -- ---- the distances of an accepted register that stores them
 
@@ -43,20 +46,29 @@ kept_afresh register {l} e k =
 
 -- ---- one edit
 
-brought_sized : (e : Edit) → WholeCard e → Sized edit_layout.card (brings e)
-brought_sized (add card) w = sized_more edit_layout.card card [] w (sized_none edit_layout.card)
-brought_sized (replace card) w = sized_more edit_layout.card card [] w (sized_none edit_layout.card)
-brought_sized (withdraw n) w = sized_none edit_layout.card
+brought_given : (e : Edit) → WholeCard e → AllGiven (brings e)
+brought_given (add card) w = each_more Given card [] (inr w) (each_none Given)
+brought_given (replace card) w = each_more Given card [] (inr w) (each_none Given)
+brought_given (withdraw n) w = each_none Given
+
+-- a card that is kept has grown by then, or it has 28 bytes anyhow
+kept_longer : (done : List Edit) (card : List ℕ) → length card ≡ 28 → kept done card ≡ card
+kept_longer [] card e = let n = newer card e in cc
+kept_longer (f ∷ done) card e = let n = newer card e in cc
 
 module _ (e : Edit) (buffer : List ℕ) where
-  -- the cards as they would then be
+  abbrev old : List (List ℕ)
+  old = cards_in (held buffer)
+
+  -- the cards as they would then be, before they gain anything
   abbrev new : List (List ℕ)
-  new = edited e (cards_in (held buffer))
+  new = with_number (named e) (brings e) old
 
   -- where an edit is accepted: its cards pass, there is room, and they are laid
   record Done : Type 0 where
     list : List Answer
-    sized : Sized edit_layout.card new
+    brought : AllGiven (brings e)
+    were : AllGiven old
     check : cards_from 0 0 new ≡ answers list
     few : length new ≤ 2_000
     room : size_of edit_layout (length new) ≤ length buffer
@@ -71,11 +83,8 @@ module _ (e : Edit) (w : WholeCard e) (buffer : List ℕ) {l : Leaders} (ok : ou
   unfolding register_by
   after_is = ap (λ o. after_old o (changed (named e) (takes e) (brings e) (cards_in (held buffer)) (length buffer))) ok
 
-  new_sized : Sized edit_layout.card (new e buffer)
-  new_sized = sized_edited edit_layout.card e (cards_in (held buffer)) (brought_sized e w) (cards_sized (held buffer) (accepted_fits (held buffer) enough l ok))
-
   steps : Refused e buffer ⊎ Done e buffer
-  unfolding changed register_with edited bad_capacity Refused
+  unfolding changed register_with bad_capacity Refused
   steps =
       go (bad_presence (takes e) (is_there (named e) (cards_in (held buffer)))) (ltb 2_000 (length (new e buffer))) (ltb (length buffer) (size_of edit_layout (length (new e buffer)))) (cards_from 0 0 (new e buffer)) refl refl refl after_is
     where
@@ -89,7 +98,8 @@ module _ (e : Edit) (w : WholeCard e) (buffer : List ℕ) {l : Leaders} (ok : ou
       go false false false (answers xs) p q s z =
           inr (record {
             list = xs;
-            sized = new_sized;
+            brought = brought_given e w;
+            were = cards_given (held buffer) (accepted_fits (held buffer) enough l ok);
             check = s;
             few = ltb-false 2_000 (length (new e buffer)) p;
             room = ltb-false (length buffer) (size_of edit_layout (length (new e buffer))) q;
@@ -107,28 +117,37 @@ module _ (e : Edit) (buffer : List ℕ) (d : Done e buffer) where
   abbrev next : List ℕ
   next = register ++ zeros
 
+  given : AllGiven (new e buffer)
+  given = each_with Given e (old e buffer) d.brought d.were
+
   held_is : held next ≡ register
-  held_is = held_back (new e buffer) d.list d.sized d.few d.check zeros
+  held_is = held_back (new e buffer) d.list given d.few d.check zeros
 
   next_accepted : StartsAccepted next
   next_accepted =
-      (leaders_of d.list, ap (λ (b : List ℕ). outcome_of b enough) held_is ∙ accepts (new e buffer) d.list d.sized d.few d.check)
+      (leaders_of d.list, ap (λ (b : List ℕ). outcome_of b enough) held_is ∙ accepts (new e buffer) d.list given d.few d.check)
 
-  next_cards : cards_in (held next) ≡ new e buffer
-  next_cards = ap cards_in held_is ∙ cards_are (new e buffer) d.list d.sized d.few d.check
+  next_cards : cards_in (held next) ≡ edited e (old e buffer)
+  unfolding edited
+  next_cards = ap cards_in held_is ∙ cards_are (new e buffer) d.list given d.few d.check
 
   next_long : length next ≡ length buffer
   next_long =
-      omega (arith, length-append register zeros, length-replicate {A = ℕ} (length buffer - length register) 0, length_is (new e buffer) d.list d.sized d.few d.check, d.room)
+      omega (arith, length-append register zeros, length-replicate {A = ℕ} (length buffer - length register) 0, length_is (new e buffer) d.list given d.few d.check, d.room)
 
   renewed : Renewed next
   renewed = record {
-    version = ap version_of held_is ∙ version_is (new e buffer) d.list d.sized d.few d.check;
+    version = ap version_of held_is ∙ version_is (new e buffer) d.list given d.few d.check;
+    long = ap length held_is ∙ (size_is (new e buffer) d.list given d.few d.check ∙ ap (λ (b : List ℕ). 11 + 28 * count_of b) (sym held_is));
     zeros =
         ap (λ (b : List ℕ). drop (length b) next) held_is
-        ∙ (rest_back (new e buffer) d.list d.sized d.few d.check zeros
+        ∙ (rest_back (new e buffer) d.list given d.few d.check zeros
         ∙ ap₂ (λ n m. replicate (n - m) 0) (sym next_long) (sym (ap length held_is)));
   }
+
+  longer : (card : List ℕ) → Contains (edited e (old e buffer)) card → length card ≡ 28
+  unfolding edited
+  longer card = each_there (λ c. length c ≡ 28) (map grown (new e buffer)) card (grown_sized (new e buffer) given)
 
   -- so what holds of the edits behind it holds of both
   in_front : {last : List ℕ} {done : List Edit} → Upheld next last done → Upheld buffer last (e ∷ done)
@@ -138,12 +157,16 @@ module _ (e : Edit) (buffer : List ℕ) (d : Done e buffer) where
     distances = u.distances;
     stored = inr (⊎_elim (λ (k : (done ≡ []) × (last ≡ next)). subst Renewed (sym k.1) renewed) (λ (k : Renewed last). k) u.stored);
     cards = u.cards ∙ ap (applied done) next_cards;
-    others = λ card other.
-        let one = unnamed e (cards_in (held buffer)) other.0 in
-        let rest = u.others card other.1 in (
-          (λ m. rest.0 (subst (λ (cards : List (List ℕ)). Contains cards card) (sym next_cards) (one.0 m))),
-          (λ m. one.1 (subst (λ (cards : List (List ℕ)). Contains cards card) next_cards (rest.1 m))),
-        );
+    stay = λ card other m.
+        let known = each_there Given (old e buffer) card d.were m in
+        let there = subst (λ (cards : List (List ℕ)). Contains cards (grown card)) (sym next_cards) (unnamed_stays card e (old e buffer) other.0 m) in
+        let same = subst (λ n. NotNamed n done) (sym (grown_number card known)) other.1 in
+        subst (Contains (cards_in (held last))) (kept_longer done (grown card) (grown_long card known)) (u.stay (grown card) same there);
+    came = λ card other m.
+        let rest = u.came card other.1 m in
+        let there = subst (λ (cards : List (List ℕ)). Contains cards rest.0) next_cards rest.1 in
+        let is : rest.0 ≡ card = sym (kept_longer done rest.0 (longer rest.0 there)) ∙ rest.2 in
+        unnamed_was card e (old e buffer) d.brought d.were other.0 (subst (Contains (edited e (old e buffer))) is there);
     long = u.long ∙ next_long;
   }
 
@@ -156,7 +179,8 @@ edits_kept first [] s w = record {
   distances = λ k. kept_afresh (held first) s.1 k;
   stored = inl (refl, refl);
   cards = refl;
-  others = λ card other. ((λ m. m), (λ m. m));
+  stay = λ card other m. m;
+  came = λ card other m. (card, m, refl);
   long = refl;
 }
 edits_kept first (e ∷ rest) s w = go (steps e w.0 first s.1) (λ b t. edits_kept b rest t w.1)

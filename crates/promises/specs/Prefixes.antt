@@ -1,5 +1,5 @@
--- The leaders after the first k cards, by examples: registers of document 01's cards, with the leaders as they go, and the one theorem
--- that each is told as its row states, in either version. The general statement is `Keeps` in `prefix/specs/Claim.antt`.
+-- The leaders after the first k cards, by examples: registers of document 01's cards, with the leaders as they go, and the theorem
+-- that each is told as its row states, in each version. The general statement is `Keeps` in `prefix/specs/Claim.antt`.
 -- Assumes nothing.
 use Rattle.std.specs.Prelude.{ℕ, ◌≡◌, refl, List, [], ◌∷◌, map, Option, Result, Ok, Err}
 use Rattle.farthest.specs.declared.Leader.{Leader}
@@ -8,9 +8,9 @@ use Rattle.refusals.specs.declared.SentBack.{SentBack}
 use Rattle.refusals.specs.Numbers.{refused_at}
 use Rattle.refusals.specs.declared.Refusal.TheVariants as refusal
 use Rattle.prefix.specs.Prefix.{prefix_of}
-use Rattle.promises.specs.Starred.{register_of, storing_register, chlorine, bromine, propane, rural, urban, in_open, in_dike, in_building, at, none, computed}
+use Rattle.promises.specs.Starred.{register_of, storing_register, seasonal_register, chlorine, bromine, propane, rural, urban, in_open, in_dike, in_building, at, none, computed}
 
--- some cards, and the distances of the farthest of them all, which a register of version 2 stores
+-- some cards, and the distances of the farthest of them all, which a register of version 2 or 3 stores
 pub record Filed : Type 0 where
   pub cards : List (List ℕ)
   pub toxic : ℕ
@@ -77,6 +77,10 @@ told = refl
 pub told_storing : map (λ r. prefix_of (storing_register r.of_cards.toxic r.of_cards.flammable r.of_cards.cards) r.after) rows ≡ map (λ r. r.outcome) rows
 unfolding rows computed prefix_of
 told_storing = refl
+
+pub told_seasonal : map (λ r. prefix_of (seasonal_register r.of_cards.toxic r.of_cards.flammable r.of_cards.cards) r.after) rows ≡ map (λ r. r.outcome) rows
+unfolding rows computed prefix_of
+told_seasonal = refl
 
 -- the distances that are stored are those of all its cards: with those of the first alone it is sent back, after however few cards the
 -- leaders are asked for

@@ -1,15 +1,15 @@
 -- The examples of document 01's table "When a register is sent back", with those of document 02, and the one theorem that each
 -- is sent back as its row states: the call gives its number and place, and of the conditions of that place its own is the first
--- that holds.
+-- that holds. And beside them registers of version 3 that are not sent back.
 -- Assumes nothing.
-use Rattle.std.specs.Prelude.{ℕ, ◌≡◌, refl, Bool, true, false, List, [], ◌∷◌, ◌++◌, map, Result, Ok, Err}
+use Rattle.std.specs.Prelude.{ℕ, suc, ◌≡◌, refl, Bool, true, false, List, [], ◌∷◌, ◌++◌, map, Result, Ok, Err}
 use Rattle.farthest.specs.declared.Leaders.{Leaders}
 use Rattle.refusals.specs.declared.SentBack.{SentBack}
 use Rattle.refusals.specs.Numbers.{number_of}
 use Rattle.cards.specs.Register.{outcome_of}
 use Rattle.prefix.specs.Claim.{distance_of}
 use Rattle.conditions.specs.Conditions.{Condition, condition, unlisted, filled, bad_toxic, bad_flammable, bad_form, of_gas, of_liquid, of_flammable, of_solution, bad_cas, mismatched, above_last, last_in_use, beyond_table, state_in, ground_in, held_in, beyond, of_register, of_card, have_passed, farthest_among, wrong_distance, at_last, only, conditions_at}
-use Rattle.promises.specs.Starred.{card_of, register_of, storing_register, chlorine, ammonia, bromine, propane, rural, urban, in_open, in_dike, computed}
+use Rattle.promises.specs.Starred.{card_of, register_of, storing_register, in_season, seasonal_register, chlorine, ammonia, bromine, propane, rural, urban, in_open, in_dike, computed}
 use Rattle.promises.specs.Solutions.{hydrochloric}
 use Rattle.promises.specs.Sheds.{with_doors}
 
@@ -27,6 +27,14 @@ example number place room register = record { register = register; room = room; 
 abbrev pub card : ℕ → List ℕ → Example
 card number bytes = example number 0 16 (register_of (bytes ∷ []))
 
+-- one card in a register of version 3, with a first and a last day, and room for its answer
+abbrev pub dated : ℕ → ℕ → ℕ → List ℕ → Example
+dated number first last bytes = example number 0 16 (seasonal_register 0 0 (in_season first last bytes ∷ []))
+
+-- chlorine at 3.40 miles until a day, and at 3.00 miles from the next day on
+abbrev pub until : ℕ → List (List ℕ)
+until day = in_season 1 day (chlorine rural in_open 0 2_250 1) ∷ in_season (suc day) 366 (chlorine rural in_open 0 2_249 2) ∷ []
+
 -- bromine in a dike at a temperature
 abbrev pub bromine_at : ℕ → ℕ → ℕ → List ℕ
 bromine_at heat area wall = card_of 1 4 urban in_dike 7726956 20_000 area wall heat 1
@@ -35,9 +43,9 @@ unfoldable pub examples : List Example
 examples =
     -- 1: "hex 00000008 01 0000"
     example 1 0 0 (0 ∷ 0 ∷ 0 ∷ 8 ∷ 1 ∷ 0 ∷ 0 ∷ [])
-    -- 2: "its example now has 09" (document 02, A9); and no request gives 3 yet
+    -- 2: "its example now has 09" (document 02, A9); and 4, which no request gives
     ∷ example 2 0 0 (0 ∷ 0 ∷ 0 ∷ 7 ∷ 9 ∷ 0 ∷ 0 ∷ [])
-    ∷ example 2 0 0 (0 ∷ 0 ∷ 0 ∷ 7 ∷ 3 ∷ 0 ∷ 0 ∷ [])
+    ∷ example 2 0 0 (0 ∷ 0 ∷ 0 ∷ 7 ∷ 4 ∷ 0 ∷ 0 ∷ [])
     -- 3: "hex 00000007 01 0001"
     ∷ example 3 0 16 (0 ∷ 0 ∷ 0 ∷ 7 ∷ 1 ∷ 0 ∷ 1 ∷ [])
     -- 4: "one card, 15 bytes"
@@ -101,6 +109,38 @@ examples =
     -- "once every card has passed": a refused card hides it, and so does 4
     ∷ example 8 1 32 (storing_register 1 1 (chlorine rural in_open 0 2_249 1 ∷ chlorine rural in_open 0 0 2 ∷ []))
     ∷ example 4 0 15 (storing_register 1 1 (propane 20_000 1 ∷ []))
+    -- document 02, A10: version 3 is "of 11 + 28 × count bytes", so that a register of seven is too short
+    ∷ example 3 0 0 (0 ∷ 0 ∷ 0 ∷ 7 ∷ 3 ∷ 0 ∷ 0 ∷ [])
+    -- 21: "a day outside 1 to 366", either of a card's two, of whatever kind
+    ∷ dated 21 0 366 (propane 20_000 1)
+    ∷ dated 21 1 0 (propane 20_000 1)
+    ∷ dated 21 367 1 (chlorine rural in_open 0 2_249 1)
+    ∷ dated 21 1 367 (chlorine rural in_open 0 2_249 1)
+    -- "on a card after its temperature": behind 8, 15 and 16
+    ∷ dated 8 0 0 (propane 10_000_001 1)
+    ∷ dated 15 0 367 (bromine_at 3_001 100 400)
+    ∷ dated 16 0 366 (hydrochloric rural in_open 10_000 0 0 381 1)
+    -- and before 10 and 11
+    ∷ dated 21 0 366 (card_of 1 4 rural in_open 7782505 2_500 0 0 250 1)
+    ∷ dated 21 0 366 (ammonia 7_500_010 1)
+    -- at the place of its card
+    ∷ example 21 1 32 (seasonal_register 0 22 (in_season 1 366 (propane 20_000 1) ∷ in_season 1 367 (propane 20_000 2) ∷ []))
+    -- "The header keeps the year's values": a wrong one is 3, also where it is right from some day on; a refused day hides it
+    ∷ example 3 0 16 (seasonal_register 0 21 (in_season 60 60 (propane 20_000 1) ∷ []))
+    ∷ example 3 0 32 (seasonal_register 300 0 (until 90))
+    ∷ example 21 0 16 (seasonal_register 0 21 (in_season 60 367 (propane 20_000 1) ∷ []))
+    ∷ []
+
+-- Registers of version 3 that are accepted: a card in force on the year's last day and its first, on one day alone, or all year; and two
+-- cards of different days, with the distance of the farthest one.
+unfoldable pub accepted : List (List ℕ)
+accepted =
+    seasonal_register 0 22 (in_season 366 1 (propane 20_000 1) ∷ [])
+    ∷ seasonal_register 0 22 (in_season 60 60 (propane 20_000 1) ∷ [])
+    ∷ seasonal_register 0 22 (in_season 1 1 (propane 20_000 1) ∷ [])
+    ∷ seasonal_register 0 22 (in_season 366 366 (propane 20_000 1) ∷ [])
+    ∷ seasonal_register 0 22 (in_season 1 366 (propane 20_000 1) ∷ [])
+    ∷ seasonal_register 340 0 (until 90)
     ∷ []
 
 -- the number and the place of a call that is sent back
@@ -137,3 +177,10 @@ stated e = e.number ∷ e.place ∷ e.number ∷ []
 pub sent_back : map defined examples ≡ map stated examples
 unfolding examples computed holding conditions_at only of_register at_last wrong_distance have_passed farthest_among distance_of of_card bad_form bad_toxic bad_flammable unlisted filled bad_cas of_gas of_liquid of_flammable of_solution mismatched beyond state_in ground_in held_in beyond_table above_last last_in_use
 sent_back = refl
+
+-- None of the accepted registers is sent back, and of no place of theirs does a condition hold.
+pub not_sent_back :
+    map (λ register. sent_back_as (outcome_of register 32) ++ (holding (conditions_at register 32 0) ++ holding (conditions_at register 32 1))) accepted
+    ≡ map (λ register. []) accepted
+unfolding accepted computed holding conditions_at only of_register at_last wrong_distance have_passed farthest_among distance_of of_card bad_form bad_toxic bad_flammable unlisted filled bad_cas of_gas of_liquid of_flammable of_solution mismatched beyond state_in ground_in held_in beyond_table above_last last_in_use
+not_sent_back = refl

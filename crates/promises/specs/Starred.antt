@@ -1,4 +1,4 @@
--- Document 01's starred cases as one table of registers, and the theorem that each comes out as its row states, in either version.
+-- Document 01's starred cases as one table of registers, and the theorem that each comes out as its row states, in each version.
 -- Assumes nothing.
 use Rattle.std.specs.Prelude.{ℕ, ◌+◌, ◌*◌, ◌≡◌, refl, List, [], ◌∷◌, ◌++◌, map, length, Option, Some, None, Result, Ok, Err}
 use Rattle.farthest.specs.declared.Leader.{Leader}
@@ -28,7 +28,7 @@ use Rattle.factors.specs.Factors.{column_of}
 use Rattle.which_table.specs.WhichTable.{table_of}
 use Rattle.scenario.specs.Plan.{plan_of, pool_of, vapor_of}
 use Rattle.fields.specs.Layout.{fields_of}
-use Rattle.seasons.specs.Seasons.{whole_year, season_of, bad_day, bad_season}
+use Rattle.seasons.specs.Seasons.{whole_year, season_of, bad_day, bad_season, grown}
 use Rattle.ranges.specs.Ranges.{bad_area, bad_heat, bad_pounds, bad_wall, bounds_of, signed, tenths_of}
 use Rattle.meaning.specs.declared.Meaning.{Meaning}
 use Rattle.meaning.specs.declared.Meaning.TheVariants as meaning
@@ -68,6 +68,16 @@ storing_register toxic flammable cards =
     four_bytes (11 + 24 * length cards)
     ++ (2 ∷ (two_bytes (length cards) ++ (two_bytes toxic ++ (two_bytes flammable ++ strung cards))))
 
+-- document 02, A10: "Version 3 cards are 28 bytes, with a first and a last day of the year, 1 to 366, 2 bytes each"
+abbrev pub in_season : ℕ → ℕ → List ℕ → List ℕ
+in_season first last card = card ++ (two_bytes first ++ two_bytes last)
+
+-- "11 + 28 × count bytes, older cards gaining 1 and 366 behind their bytes"
+abbrev pub seasonal_register : ℕ → ℕ → List (List ℕ) → List ℕ
+seasonal_register toxic flammable cards =
+    four_bytes (11 + 28 * length cards)
+    ++ (3 ∷ (two_bytes (length cards) ++ (two_bytes toxic ++ (two_bytes flammable ++ strung (map grown cards)))))
+
 -- the paper's pool area in hundredths of a square foot, or that it gives none
 pub data Area : Type 0 where
   given : ℕ → Area
@@ -86,7 +96,7 @@ pub record Row : Type 0 where
   pub flammable : Option Leader
 
 -- card number, bytes, route, table, pool area, rate in thousandths of a pound per minute, distance in hundredths of a mile; a card that
--- tells no season is in force all year
+-- tells no season is in force all year, and so it is with the days that it gains in version 3
 abbrev pub line : Class → ℕ → (ℕ → List ℕ) → ℕ → ℕ → Area → ℕ → ℕ → Line
 line c number card route table pool rate miles =
     record {
@@ -232,9 +242,13 @@ defined r = defined_by (register_of (cards_of_row r)) r
 abbrev pub defined_storing : Row → Said
 defined_storing r = defined_by (storing_register (distance_in r.toxic) (distance_in r.flammable) (cards_of_row r)) r
 
+-- and of one whose cards also tell their days
+abbrev pub defined_seasonal : Row → Said
+defined_seasonal r = defined_by (seasonal_register (distance_in r.toxic) (distance_in r.flammable) (cards_of_row r)) r
+
 -- all that the rows compute with
 unfoldable pub computed : Unit {0}
-unfolding strung two_bytes four_bytes outcome_of cards_of cards_from wrong_for cards_in stored_in layout_in layout_of header_of bad_length bad_version bad_count bad_buffer leaders_of leaders_from leaders_after answer_of stock_of season_of bad_season bad_day fields_of bad_area bad_heat bad_number bad_pounds bad_wall blank bounds_of flammable_of ground_of held_of meaning_of open_of shape_of signed state_of substance_of tenths_of toxic_meaning factors_of toxic_of b1 b2 b3 b4 bad_percent highest lines_of lowest solution_of among look_up is_flammable heat_of first_from metres_of ring_of c1 table1 table2 table3 table4 endpoints5 endpoints6 endpoints7 endpoints8 rates5 rates6 rates7 rates8 table5 table6 table7 table8 table9 table10 table11 table12 answered apart by_range by_row closest closest_column closest_from closest_row distance from_column holding in_use larger largest last_of mark_of past ratio_below smaller thousandths read_in reading_of tables column_of plan_of pool_of table_of vapor_of at_most_ten_minutes diked_area pool_rate
+unfolding strung two_bytes four_bytes outcome_of cards_of cards_from wrong_for cards_in stored_in layout_in layout_of header_of bad_length bad_version bad_count bad_buffer leaders_of leaders_from leaders_after answer_of stock_of season_of bad_season bad_day grown fields_of bad_area bad_heat bad_number bad_pounds bad_wall blank bounds_of flammable_of ground_of held_of meaning_of open_of shape_of signed state_of substance_of tenths_of toxic_meaning factors_of toxic_of b1 b2 b3 b4 bad_percent highest lines_of lowest solution_of among look_up is_flammable heat_of first_from metres_of ring_of c1 table1 table2 table3 table4 endpoints5 endpoints6 endpoints7 endpoints8 rates5 rates6 rates7 rates8 table5 table6 table7 table8 table9 table10 table11 table12 answered apart by_range by_row closest closest_column closest_from closest_row distance from_column holding in_use larger largest last_of mark_of past ratio_below smaller thousandths read_in reading_of tables column_of plan_of pool_of table_of vapor_of at_most_ten_minutes diked_area pool_rate
 computed = tt
 
 -- Every starred case of document 01.
@@ -246,3 +260,8 @@ starred = refl
 pub starred_storing : map defined_storing rows ≡ map stated rows
 unfolding rows computed
 starred_storing = refl
+
+-- And in one of version 3 with the right distances, its cards in force from 1 to 366.
+pub starred_seasonal : map defined_seasonal rows ≡ map stated rows
+unfolding rows computed
+starred_seasonal = refl

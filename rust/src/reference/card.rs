@@ -1,6 +1,7 @@
-//! A card's 24 bytes, taken apart into a meaning or a refusal.
+//! A card's 24 bytes, or 28 where it has a season, taken apart into a meaning or a refusal.
 
 use super::printed::{Flammable, Phase, Printed, Toxic};
+use super::season::Season;
 use super::units::{Concentration, Pounds, SquareFeet};
 use super::{Fault, CARD_LEN};
 use std::ops::RangeInclusive;
@@ -16,10 +17,11 @@ const TOXIC: u8 = 1;
 /// The code of the state whose cards have a concentration where others have a temperature.
 pub const SOLUTION: u8 = 5;
 
-/// A card that passed checks 5 to 9 and 14 to 16, and 10 as far as its fields alone decide it.
+/// A card that passed checks 5 to 9, 14 to 16 and 21, and 10 as far as its fields alone decide it.
 pub struct Card<'p> {
     pub number: u32,
     pub meaning: Meaning<'p>,
+    pub season: Season,
 }
 
 pub enum Meaning<'p> {
@@ -77,15 +79,16 @@ impl<'p> Card<'p> {
     /// Reads a card; `last_number` is the number of the card before it, or 0.
     pub fn read(bytes: &[u8], last_number: u32, printed: &'p Printed) -> Result<Self, Fault> {
         let fields = Fields::cut(bytes);
+        let season = Season::cut(bytes);
         if fields.number <= last_number {
             return Err(Fault::CardNumber);
         }
         let meaning = match fields.kind {
-            TOXIC => Meaning::Toxic(toxic(&fields, printed)?),
-            2 => flammable(&fields, printed)?,
+            TOXIC => Meaning::Toxic(toxic(&fields, season, printed)?),
+            2 => flammable(&fields, season, printed)?,
             _ => return Err(Fault::Form),
         };
-        Ok(Card { number: fields.number, meaning })
+        Ok(Card { number: fields.number, meaning, season })
     }
 }
 
@@ -94,7 +97,7 @@ impl<'p> ToxicCard<'p> {
     pub fn read(bytes: &[u8], printed: &'p Printed) -> Result<Self, Fault> {
         let fields = Fields::cut(bytes);
         demand(fields.kind == TOXIC, Fault::Form)?;
-        toxic(&fields, printed)
+        toxic(&fields, Season::cut(bytes), printed)
     }
 }
 
@@ -140,8 +143,9 @@ impl Tenths {
 }
 
 impl Fields {
+    /// What stands behind a card's 24 bytes is none of them.
     pub fn cut(bytes: &[u8]) -> Self {
-        let bytes: &[u8; CARD_LEN] = bytes.try_into().expect("a card has 24 bytes");
+        let bytes: &[u8; CARD_LEN] = bytes.first_chunk().expect("a card has 24 bytes at least");
         let word = |at: usize| u32::from_be_bytes([bytes[at], bytes[at + 1], bytes[at + 2], bytes[at + 3]]);
         Fields {
             kind: bytes[0],
@@ -180,42 +184,39 @@ pub fn demand(holds: bool, fault: Fault) -> Result<(), Fault> {
     }
 }
 
-fn flammable<'p>(fields: &Fields, printed: &'p Printed) -> Result<Meaning<'p>, Fault> {
+fn flammable<'p>(fields: &Fields, season: Season, printed: &'p Printed) -> Result<Meaning<'p>, Fault> {
     let Fields { state, ground, containment, area, wall, tenths, .. } = *fields;
     let bare = (state, ground, containment) == (0, 0, 0) && (area, wall, tenths) == (0, 0, Tenths::BLANK);
     demand(bare, Fault::Form)?;
     let substance = printed.flammable(fields.cas).ok_or(Fault::Substance)?;
     demand(POUNDS.contains(&fields.pounds), Fault::Pounds)?;
+    demand(season.is_in_range(), Fault::Day)?;
     Ok(Meaning::Flammable { substance, pounds: Pounds::new(fields.pounds) })
 }
 
-/// Checks 6 to 9, 14, 15 or 16, and 10, in this order: each stage settles one number before the next is looked at. A field
-/// that does not apply is zero once 6 has passed.
-fn toxic<'p>(fields: &Fields, printed: &'p Printed) -> Result<ToxicCard<'p>, Fault> {
+/// Checks 6 to 9, 14, 15 or 16, 21 and 10, in this order: each stage settles one number before the next is looked at. A
+/// field that does not apply is zero once 6 has passed.
+fn toxic<'p>(fields: &Fields, season: Season, printed: &'p Printed) -> Result<ToxicCard<'p>, Fault> {
     let (state, ground, containment) = form(fields)?;
     let substance = match state {
         State::Solution(concentration) => solution(fields, containment, concentration, printed)?,
-        _ => pure_substance(fields, containment, state, printed)?,
+        _ => pure_substance(fields, containment, printed)?,
     };
+    demand(season.is_in_range(), Fault::Day)?;
+    demand(fits(&substance.phase, state, containment), Fault::Exhibit)?;
     Ok(ToxicCard { substance, state, ground, containment, pounds: Pounds::new(fields.pounds) })
 }
 
-/// Checks 7 to 9, 14, 15 and 10 in states 1 to 4.
-fn pure_substance<'p>(
-    fields: &Fields,
-    containment: Containment,
-    state: State,
-    printed: &'p Printed,
-) -> Result<&'p Toxic, Fault> {
+/// Checks 7 to 9, 14 and 15 in states 1 to 4.
+fn pure_substance<'p>(fields: &Fields, containment: Containment, printed: &'p Printed) -> Result<&'p Toxic, Fault> {
     let substance = printed.toxic(fields.cas).ok_or(Fault::Substance)?;
     ranges(fields, containment)?;
     // Outside state 4 the field is zero, which is in range.
     demand(TEMPERATURE.contains(&fields.tenths.temperature()), Fault::Temperature)?;
-    demand(fits(&substance.phase, state, containment), Fault::Exhibit)?;
     Ok(substance)
 }
 
-/// Checks 7 to 9, 14 and 16 in state 5. Every containment suits a solution and B-3 has no blank, so 10 refuses none.
+/// Checks 7 to 9, 14 and 16 in state 5.
 fn solution<'p>(
     fields: &Fields,
     containment: Containment,
@@ -257,11 +258,13 @@ fn form(fields: &Fields) -> Result<(State, Ground, Containment), Fault> {
     Ok((state, ground, containment))
 }
 
-/// Check 10 in states 1 to 4, as far as no factor is read: the state suits the exhibit, and only what can pool is diked.
+/// Check 10, as far as no factor is read: the state suits the exhibit, and only what can pool is diked. Every containment
+/// suits a solution and B-3 has no blank, so 10 refuses none.
 fn fits(phase: &Phase, state: State, containment: Containment) -> bool {
     let diked = matches!(containment, Containment::Dike(_));
     match (phase, state) {
         (Phase::Liquid(_), State::Liquid(_)) | (Phase::Gas { .. }, State::Refrigerated) => true,
+        (Phase::Solution { .. }, State::Solution(_)) => true,
         (Phase::Gas { .. }, State::Gas | State::Pressurised) => !diked,
         (Phase::Gas { .. }, State::Liquid(_) | State::Solution(_)) => false,
         (Phase::Liquid(_) | Phase::Solution { .. }, _) => false,

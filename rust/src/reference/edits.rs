@@ -1,11 +1,13 @@
 //! Edits of a register in a lent buffer, request A9 of document 02: a card is added, replaced or withdrawn by its number.
 //!
-//! The register is taken apart into a list of cards, the list is edited, and a register of version 2 is laid anew from it.
+//! The register is taken apart into a list of cards, each with the season that it has or, by request A10, the whole year;
+//! the list is edited, and a register of version 3 is laid anew from it.
 
-use super::header::{header_2, length_field, HEADER_LEN, STORED_HEADER_LEN};
-use super::{accepted, answers, farthest, Fault, Refused, CARD_LEN, MAX_CARDS};
+use super::header::{header_3, length_field, Cards, HEADER_LEN, STORED_HEADER_LEN};
+use super::season::Season;
+use super::{accepted, answers, farthest, Fault, Refused, CARD_LEN, MAX_CARDS, SEASONAL_CARD_LEN};
 
-type Card = [u8; CARD_LEN];
+type Card = [u8; SEASONAL_CARD_LEN];
 
 /// Adds a card, by its number, to the register that a buffer starts with, and gives the register's new length.
 ///
@@ -38,16 +40,15 @@ pub fn withdraw(buffer: &mut [u8], number: u32) -> Result<usize, Refused> {
 fn edit(buffer: &mut [u8], change: impl FnOnce(&[Card]) -> Result<Vec<Card>, Fault>) -> Result<usize, Refused> {
     let old = cards_in(buffer)?;
     let new = change(&old).map_err(Fault::of_register)?;
-    let length = STORED_HEADER_LEN + new.len() * CARD_LEN;
+    let length = STORED_HEADER_LEN + new.len() * SEASONAL_CARD_LEN;
     if new.len() > MAX_CARDS || length > buffer.len() {
         return Err(Fault::Capacity.of_register());
     }
     // The old cards pass again, so a refusal is the new card's.
-    let cards = new.as_flattened();
-    let header = header_2(cards, farthest(&answers(cards)?));
+    let header = header_3(&new, farthest(&answers(Cards::new(&new))?));
     buffer.fill(0);
     buffer[..STORED_HEADER_LEN].copy_from_slice(&header);
-    buffer[STORED_HEADER_LEN..length].copy_from_slice(cards);
+    buffer[STORED_HEADER_LEN..length].copy_from_slice(new.as_flattened());
     Ok(length)
 }
 
@@ -57,8 +58,16 @@ fn cards_in(buffer: &[u8]) -> Result<Vec<Card>, Refused> {
     let length = length_field(buffer).filter(|length| (least..=buffer.len() as u64).contains(length));
     let length = length.ok_or_else(|| Fault::Length.of_register())? as usize;
     let (register, _) = accepted(&buffer[..length])?;
-    let (cards, _) = register.cards.as_chunks();
-    Ok(cards.to_vec())
+    Ok(register.cards.each().map(with_season).collect())
+}
+
+/// A card with its season behind it, whether or not it has one already.
+fn with_season(bytes: &[u8]) -> Card {
+    let mut card = [0; SEASONAL_CARD_LEN];
+    let (fields, season) = card.split_at_mut(CARD_LEN);
+    fields.copy_from_slice(&bytes[..CARD_LEN]);
+    season.copy_from_slice(&Season::cut(bytes).bytes());
+    card
 }
 
 /// The place of the card of a number, or else the place where it would stand: cards rise by their numbers.
@@ -71,6 +80,5 @@ fn place_of(cards: &[Card], number: u32) -> Result<usize, usize> {
 }
 
 fn number_of(card: &Card) -> u32 {
-    let [.., n0, n1, n2, n3] = *card;
-    u32::from_be_bytes([n0, n1, n2, n3])
+    u32::from_be_bytes([card[20], card[21], card[22], card[23]])
 }

@@ -7,7 +7,7 @@
 mod tests;
 
 use super::card::{Fields, Tenths, SOLUTION};
-use super::header::{header_1, Register, HEADER_LEN};
+use super::header::{header_1, Cards, Register, HEADER_LEN};
 use super::units::Concentration;
 use super::{answers, Fault, Refused, CARD_LEN, MAX_CARDS};
 
@@ -34,7 +34,8 @@ pub fn read_lines(text: &[u8], register: &mut [u8]) -> Result<usize, Refused> {
 
 /// Writes an accepted register as comma lines in their one strict form at the start of `text`, and gives their length.
 ///
-/// Bytes of `text` behind them are left alone, and so is all of it on refusal. By request A9 none but version 1 is written.
+/// Bytes of `text` behind them are left alone, and so is all of it on refusal. By requests A9 and A10 none but version 1 is
+/// written.
 pub fn write_lines(register: &[u8], text: &mut [u8]) -> Result<usize, Refused> {
     let Register { cards, .. } = Register::read_version_1(register)?;
     // The answers are not asked for, but whether there are any: only an accepted register is written.
@@ -141,9 +142,9 @@ fn value(digits: &[u8]) -> Option<u32> {
 }
 
 /// The strict lines of the cards of a register.
-fn strict_lines(cards: &[u8]) -> Vec<u8> {
-    let mut text = Vec::with_capacity(cards.len() / CARD_LEN * MAX_STRICT_LINE);
-    for card in cards.chunks_exact(CARD_LEN) {
+fn strict_lines(cards: Cards) -> Vec<u8> {
+    let mut text = Vec::with_capacity(cards.count() * MAX_STRICT_LINE);
+    for card in cards.each() {
         write_line(&mut text, &Fields::cut(card));
     }
     text

@@ -1,9 +1,10 @@
-//! Document 01's listing, refusals and cards to try, the solutions, the leaders, the sheds with doors, the blasts and the
-//! exact rates of document 02, and the guidance's own examples.
+//! Document 01's listing, refusals and cards to try, the solutions, the leaders, the versions, the sheds with doors, the
+//! blasts and the exact rates of document 02, and the guidance's own examples.
 
 use super::{answer, exact_rate, is_old, leaders_after, listing, Accepted, Farthest, Fraction, Refused};
 use super::{ANSWER_LEN, CARD_LEN, HEADER_LEN, MAX_CARDS, MAX_LEN};
-use crate::samples::{accepted_register, cards_of, register, stored_register, Card, Rng};
+use crate::samples::seasons::WHOLE_YEAR;
+use crate::samples::{accepted_register, plain_cards, register, seasonal_register, stored_register, Card, Rng};
 use std::ops::Range;
 
 const AMMONIA: u32 = 7_664_417;
@@ -290,7 +291,7 @@ fn beyond_the_count_all_cards_are_the_first() {
 
 /// Document 01's example in version 2, with two stored distances.
 fn stored_example(distances: [u16; 2]) -> Vec<u8> {
-    stored_register(cards_of(&example()), distances)
+    stored_register(&plain_cards(&example()), distances)
 }
 
 #[test]
@@ -333,34 +334,49 @@ fn a_wrong_stored_distance_is_hidden_by_4_and_by_a_card() {
 }
 
 #[test]
-fn version_2_has_a_length_of_its_own() {
+fn versions_have_lengths_of_their_own() {
     // Seven to ten bytes have room for no distances, and are long enough for number 1.
-    for length in 7..11 {
-        let mut short = vec![0, 0, 0, length, 2];
-        short.resize(usize::from(length), 0);
-        assert_eq!(refusal(&short), Some((3, 0)), "{length} bytes");
+    for version in [2, 3] {
+        for length in 7..11 {
+            let mut short = vec![0, 0, 0, length, version];
+            short.resize(usize::from(length), 0);
+            assert_eq!(refusal(&short), Some((3, 0)), "{length} bytes of version {version}");
+        }
+        assert_eq!(refusal(&[0, 0, 0, 6, version, 0]), Some((1, 0)));
+        assert_eq!(refusal(&[0, 0, 0, 11, version, 0, 0, 0, 0, 0, 0]), None);
+        assert_eq!(refusal(&[0, 0, 0, 11, version, 0, 1, 0, 0, 0, 0]), Some((3, 0)));
+        assert_eq!(refusal(&[0, 0, 0, 12, version, 0, 0, 0, 0, 0, 0, 0]), Some((3, 0)));
     }
-    assert_eq!(refusal(&[0, 0, 0, 6, 2, 0]), Some((1, 0)));
-    assert_eq!(refusal(&[0, 0, 0, 11, 2, 0, 0, 0, 0, 0, 0]), None);
-    assert_eq!(refusal(&[0, 0, 0, 11, 2, 0, 1, 0, 0, 0, 0]), Some((3, 0)));
-    assert_eq!(refusal(&[0, 0, 0, 12, 2, 0, 0, 0, 0, 0, 0, 0]), Some((3, 0)));
-    for version in (0..=u8::MAX).filter(|version| ![1, 2].contains(version)) {
+    for version in (0..=u8::MAX).filter(|version| ![1, 2, 3].contains(version)) {
         assert_eq!(refusal(&[0, 0, 0, 11, version, 0, 0, 0, 0, 0, 0]), Some((2, 0)), "version {version}");
     }
-    // The bytes of version 1 do not become those of version 2 by its byte.
-    let mut relabelled = example();
-    relabelled[4] = 2;
-    assert_eq!(refusal(&relabelled), Some((3, 0)));
+    // The bytes of one version do not become those of another by its byte.
+    for (version, other) in [(1, 2), (1, 3), (2, 1), (2, 3), (3, 1), (3, 2)] {
+        let mut relabelled = example_in(version);
+        assert_eq!(refusal(&relabelled), None);
+        relabelled[4] = other;
+        assert_eq!(refusal(&relabelled), Some((3, 0)), "version {version} as {other}");
+    }
+}
+
+/// Document 01's example in a version, right in all of them.
+fn example_in(version: u8) -> Vec<u8> {
+    let seasonal = || plain_cards(&example()).iter().map(|card| WHOLE_YEAR.behind(card)).collect::<Vec<_>>();
+    match version {
+        1 => example(),
+        2 => stored_example([180, 18]),
+        _ => seasonal_register(&seasonal(), [180, 18]),
+    }
 }
 
 #[test]
-fn the_longest_register_is_of_version_2() {
-    let cards = (1..=MAX_CARDS as u32).map(|number| numbered(flammable(PROPANE, 10_000), number).bytes());
-    let cards: Vec<_> = cards.collect();
-    let longest = stored_register(&cards, [0, 18]);
-    assert_eq!((longest.len(), MAX_LEN), (48_011, 48_011));
+fn the_longest_register_is_of_version_3() {
+    let propane = |number| numbered(flammable(PROPANE, 10_000), number).in_season(WHOLE_YEAR);
+    let cards: Vec<_> = (1..=MAX_CARDS as u32).map(propane).collect();
+    let longest = seasonal_register(&cards, [0, 18]);
+    assert_eq!((longest.len(), MAX_LEN), (56_011, 56_011));
     assert!(listing(&longest).ends_with("\nT none\nF 1 0.18\n"));
-    let one_more = stored_register(&[cards.as_slice(), &cards[..1]].concat(), [0, 18]);
+    let one_more = seasonal_register(&[cards.as_slice(), &cards[..1]].concat(), [0, 18]);
     assert_eq!(refusal(&one_more), Some((3, 0)));
 }
 

@@ -26,6 +26,9 @@ const LISTED: usize = 63;
 const STEPS: usize = 150_716;
 const EXACT: usize = 87;
 
+/// What a flammable card can be refused with.
+const OF_BLASTS: [usize; 5] = [5, 6, 7, 8, 21];
+
 /// Bytes 4 to 13 of a blast's answer: route 3, no table, no rate.
 const ROUTE_TABLE_RATE: [u8; 10] = [3, 0, 0, 0, 0, 0, 0, 0, 0, 0];
 
@@ -168,7 +171,7 @@ impl Blasts {
 
     fn compare(&mut self, register: &[u8], buffer_len: usize) -> Option<Refused> {
         let refused = self.comparison.compare(register, buffer_len);
-        let cards = cards_of(register).iter();
+        let cards = cards_of(register);
         match refused {
             Some(refused) => self.count_refused(refused, cards.map(|card| card[0]).collect()),
             None => {
@@ -180,13 +183,13 @@ impl Blasts {
         refused
     }
 
-    /// A flammable card is refused for its number, its form, its substance or its quantity, and for nothing else.
+    /// A flammable card is refused for its number, its form, its substance, its quantity or its season, and for nothing else.
     fn count_refused(&mut self, Refused { number, place }: Refused, kinds: Vec<u8>) {
         if number < 5 || kinds[place as usize] != 2 {
             self.refused_otherwise += 1;
             return;
         }
-        assert!((5..=8).contains(&number), "a flammable card was refused with {number}");
+        assert!(OF_BLASTS.contains(&usize::from(number)), "a flammable card was refused with {number}");
         self.refused[usize::from(number)] += 1;
     }
 
@@ -239,9 +242,10 @@ impl Blasts {
         assert_eq!((self.fuels.len(), self.steps, self.exact), (LISTED, STEPS, EXACT));
         println!("fuller tanks with a longer ring: {}, with an equal one: {}", self.longer, self.equal);
         println!("refused for a card that is not flammable, or as a whole: {}", self.refused_otherwise);
-        for (number, met) in self.refused.iter().enumerate().skip(5).take(4) {
+        for number in OF_BLASTS {
+            let met = self.refused[number];
             println!("blasts refused {number:2}: {met}");
-            assert!(*met >= LEAST_OF_EACH, "blasts refused {number} were met too seldom");
+            assert!(met >= LEAST_OF_EACH, "blasts refused {number} were met too seldom");
         }
         assert!(self.told_by_miles.min(self.longer).min(self.equal) >= LEAST_OF_EACH);
         assert!(self.exact_told_by_miles > 0);

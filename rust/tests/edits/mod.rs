@@ -8,13 +8,14 @@
 mod lists;
 
 use crate::lent::{hex, Lent};
-use crate::versions::stored_in;
+use crate::versions::{self, stored_in, version};
 use crate::{report_refusals, Refusals, LEAST_OF_EACH, SEED};
 use lists::{edit_in, long_start, start, Start};
 use rings_second::proved;
-use rings_second::reference::{self, Accepted, Farthest, Refused, CARD_LEN, HEADER_LEN, MAX_CARDS};
+use rings_second::reference::{self, Accepted, Farthest, Refused, CARD_LEN, HEADER_LEN, MAX_CARDS, SEASONAL_CARD_LEN};
 use rings_second::samples::edits::Edit;
-use rings_second::samples::{cards_of, register_of_bytes, stored_register, Rng};
+use rings_second::samples::seasons::Season;
+use rings_second::samples::{cards_of, register_of_bytes, seasonal_register, Rng};
 
 const LISTS: usize = 250_000;
 /// Lists on registers of a thousand cards and more, up to one too many.
@@ -26,7 +27,8 @@ const NOT_OF_EDITS: [usize; 5] = [4, 12, 13, 17, 18];
 /// Of cases that long registers alone can be.
 const LEAST_OF_LONG: usize = 50;
 
-type Card = [u8; CARD_LEN];
+/// A card with its season.
+type Card = [u8; SEASONAL_CARD_LEN];
 
 #[test]
 fn edits_agree() {
@@ -62,8 +64,10 @@ struct Met {
     at_front: usize,
     in_middle: usize,
     at_end: usize,
-    /// The first accepted edit carried version 1 to version 2.
-    carried: usize,
+    /// The first accepted edit carried version 1 or version 2 to version 3; cards had seasons before.
+    carried_from_1: usize,
+    carried_from_2: usize,
+    seasonal: usize,
     /// The buffer has no byte behind the register as it now is; or had some, which are zeros now.
     filled: usize,
     cleared: usize,
@@ -77,9 +81,11 @@ struct Met {
     same: usize,
     /// An accepted edit behind a refused one of its list.
     after_a_refusal: usize,
-    /// Refused: the number zero; a byte too little; the cards pass, but a stored distance is wrong.
+    /// Refused: the number zero; a byte too little; a card to withdraw, since the others grow; the cards pass, but a stored
+    /// distance is wrong.
     zero: usize,
     short_by_one: usize,
+    withdrawn_without_room: usize,
     stale: usize,
     /// Of registers with as many cards as there may be: accepted, and one card too many.
     full: usize,
@@ -146,7 +152,7 @@ impl Edits {
     }
 
     fn count(&mut self, edit: &Edit, edited: &Edited) {
-        let Edited { place, others, distances, old_distances, was_version_1, .. } = *edited;
+        let Edited { place, others, distances, old_distances, old_version, .. } = *edited;
         match edit {
             Edit::Add(_) => self.adds += 1,
             Edit::Replace(_) => self.replaces += 1,
@@ -156,7 +162,9 @@ impl Edits {
         met.at_front += usize::from(place == 0 && others > 0);
         met.in_middle += usize::from(place > 0 && place < others);
         met.at_end += usize::from(place > 0 && place == others);
-        met.carried += usize::from(was_version_1);
+        met.carried_from_1 += usize::from(old_version == 1);
+        met.carried_from_2 += usize::from(old_version == 2);
+        met.seasonal += usize::from(old_version == 3);
         met.filled += usize::from(edited.register.len() == self.buffers.before().len());
         met.cleared += usize::from(self.buffers.before()[edited.register.len()..].iter().any(|byte| *byte != 0));
         met.grew += usize::from((0..2).any(|class| distances[class] > old_distances[class]));
@@ -164,8 +172,8 @@ impl Edits {
         met.stayed += usize::from(distances == old_distances);
         met.emptied += usize::from(edited.register.len() == 11);
         met.largest += usize::from(number_of(edit) == u32::MAX);
-        let old_cards = cards_of(self.buffers.before());
-        met.same += usize::from(matches!(edit, Edit::Replace(card) if old_cards[place] == *card));
+        let old_card = |place| cards_of(self.buffers.before()).nth(place).map(with_season);
+        met.same += usize::from(matches!(edit, Edit::Replace(card) if old_card(place) == Some(*card)));
         met.full += usize::from(cards_of(&edited.register).len() == MAX_CARDS);
     }
 
@@ -174,10 +182,13 @@ impl Edits {
         let before = self.buffers.before();
         let register = before.get(..length_in(before).unwrap_or(0)).unwrap_or_default();
         let cards = cards_of(register);
-        let needed = 11 + (cards.len() + usize::from(matches!(edit, Edit::Add(_)))) * CARD_LEN;
+        let is_withdrawn = matches!(edit, Edit::Withdraw(_));
+        let more = cards.len() + usize::from(matches!(edit, Edit::Add(_))) - usize::from(is_withdrawn && number == 20);
+        let needed = 11 + more * SEASONAL_CARD_LEN;
         let met = &mut self.met;
         met.zero += usize::from(number_of(edit) == 0 && [5, 19].contains(&number));
         met.short_by_one += usize::from(number == 20 && before.len() + 1 == needed);
+        met.withdrawn_without_room += usize::from(number == 20 && is_withdrawn);
         met.stale += usize::from(number == 3 && stored_in(register).is_some() && cards.len() <= MAX_CARDS);
         met.overfull += usize::from(number == 20 && cards.len() == MAX_CARDS && before.len() >= needed);
     }
@@ -194,7 +205,9 @@ impl Edits {
             ("at the front", met.at_front, LEAST_OF_EACH),
             ("in the middle", met.in_middle, LEAST_OF_EACH),
             ("at the end", met.at_end, LEAST_OF_EACH),
-            ("that carried version 1 to version 2", met.carried, LEAST_OF_EACH),
+            ("that carried version 1 to version 3", met.carried_from_1, LEAST_OF_EACH),
+            ("that carried version 2 to version 3", met.carried_from_2, LEAST_OF_EACH),
+            ("of version 3", met.seasonal, LEAST_OF_EACH),
             ("that filled the buffer", met.filled, LEAST_OF_EACH),
             ("that put zeros behind the register", met.cleared, LEAST_OF_EACH),
             ("after which a distance is longer", met.grew, LEAST_OF_EACH),
@@ -206,6 +219,7 @@ impl Edits {
             ("accepted behind a refused one", met.after_a_refusal, LEAST_OF_EACH),
             ("refused for the number zero", met.zero, LEAST_OF_EACH),
             ("refused for a byte", met.short_by_one, LEAST_OF_EACH),
+            ("refused for room to withdraw", met.withdrawn_without_room, LEAST_OF_EACH),
             ("refused for a stored distance", met.stale, LEAST_OF_EACH),
             ("that left as many cards as there may be", met.full, LEAST_OF_LONG),
             ("refused for one card too many", met.overfull, LEAST_OF_LONG),
@@ -251,7 +265,7 @@ struct Edited {
     place: usize,
     others: usize,
     old_distances: [u16; 2],
-    was_version_1: bool,
+    old_version: u8,
 }
 
 /// What the calls for whole registers say of an edit of the register that a buffer starts with.
@@ -262,9 +276,9 @@ fn third_opinion(buffer: &[u8], edit: &Edit) -> Result<Edited, Refused> {
         return refused(1);
     };
     let old_distances = distances(old)?;
-    let mut cards = cards_of(old).to_vec();
+    let mut cards: Vec<Card> = cards_of(old).map(with_season).collect();
     let number = number_of(edit);
-    let found = cards.binary_search_by_key(&number, card_number);
+    let found = cards.binary_search_by_key(&number, |card| number_in(card));
     let (Ok(place) | Err(place)) = found;
     match (edit, found) {
         (Edit::Add(card), Err(_)) => cards.insert(place, *card),
@@ -272,24 +286,44 @@ fn third_opinion(buffer: &[u8], edit: &Edit) -> Result<Edited, Refused> {
         (Edit::Withdraw(_), Ok(_)) => drop(cards.remove(place)),
         _ => return refused(19),
     }
-    let length = 11 + cards.len() * CARD_LEN;
+    let length = 11 + cards.len() * SEASONAL_CARD_LEN;
     if length > buffer.len() || cards.len() > MAX_CARDS {
         return refused(20);
     }
     if let Edit::Add(card) | Edit::Replace(card) = edit {
-        // Alone it is checked with no number before its own, and at place 0.
-        let alone = distances(&register_of_bytes(&[*card]));
-        alone.map_err(|Refused { number, .. }| Refused { number, place: place as u64 })?;
+        if let Some(number) = refusal_alone(card) {
+            return Err(Refused { number, place: place as u64 });
+        }
     }
-    let distances = distances(&register_of_bytes(&cards)).expect("cards that are accepted one by one");
+    let plain: Vec<_> = cards.iter().map(without_season).collect();
+    let distances = distances(&register_of_bytes(&plain)).expect("cards that are accepted one by one");
     Ok(Edited {
-        register: stored_register(&cards, distances),
+        register: seasonal_register(&cards, distances),
         distances,
         place,
         others: cards.len() - usize::from(!matches!(edit, Edit::Withdraw(_))),
         old_distances,
-        was_version_1: old[4] == 1,
+        old_version: version(old).expect("an accepted register"),
     })
+}
+
+/// What is wrong with a card alone, with no number before its own: its season is judged here, the rest by the call for
+/// whole registers.
+fn refusal_alone(card: &Card) -> Option<u8> {
+    let plain = distances(&register_of_bytes(&[without_season(card)])).err().map(|refused| refused.number);
+    match versions::is_in_range(Season::of(card)) {
+        true => plain,
+        false => Some(versions::with_season(plain)),
+    }
+}
+
+/// A card with the season that it has or, as older cards gain it, the whole year.
+fn with_season(card: &[u8]) -> Card {
+    Season::of(card).behind(card.first_chunk().expect("24 bytes at least"))
+}
+
+fn without_season(card: &Card) -> [u8; CARD_LEN] {
+    *card.first_chunk().expect("24 bytes at least")
 }
 
 /// The distances of a register's farthest cards, zero for none, by the call that needs no answer buffer.
@@ -313,11 +347,12 @@ fn length_in(buffer: &[u8]) -> Option<usize> {
 
 fn number_of(edit: &Edit) -> u32 {
     match edit {
-        Edit::Add(card) | Edit::Replace(card) => card_number(card),
+        Edit::Add(card) | Edit::Replace(card) => number_in(card),
         Edit::Withdraw(number) => *number,
     }
 }
 
-fn card_number(card: &Card) -> u32 {
+/// The number of a card, with or without a season.
+fn number_in(card: &[u8]) -> u32 {
     u32::from_be_bytes([card[20], card[21], card[22], card[23]])
 }

@@ -22,9 +22,9 @@ const MAX_RATE: u64 = 1_000_000_000;
 /// 25 miles, in hundredths.
 const LIMIT: f64 = 2_500.0;
 
-/// The refusals that a likely scenario is never given: they are of whole registers, of their order, of comma lines, or
-/// of edits.
-const NOT_OF_LIKELY: [usize; 9] = [1, 2, 3, 4, 5, 12, 13, 19, 20];
+/// The refusals that a likely scenario is never given: they are of whole registers, of their order, of comma lines, of
+/// edits, or of seasons, which its card has none of.
+const NOT_OF_LIKELY: [usize; 10] = [1, 2, 3, 4, 5, 12, 13, 19, 20, 21];
 
 #[test]
 fn likely_scenarios_agree() {

@@ -5,11 +5,11 @@
 //! are the farthest of a register of those cards alone, and any other register is sent back as that call sends it back.
 
 use crate::lent::hex;
-use crate::{in_version_2, random_case, random_case_of_sheds, random_case_of_solutions, spoil, words};
+use crate::{in_later_version, random_case, random_case_of_sheds, random_case_of_solutions, spoil, words};
 use crate::{LEAST_OF_EACH, SEED};
 use rings_second::proved;
 use rings_second::reference::{self, Accepted, Farthest, Refused, ANSWER_LEN, CARD_LEN, MAX_CARDS};
-use rings_second::samples::{self, cards_of, Card, Rng};
+use rings_second::samples::{self, cards_of, plain_cards, Card, Rng};
 
 const REGISTERS: usize = 150_000;
 const REGISTERS_OF_SOLUTIONS: usize = 30_000;
@@ -113,9 +113,9 @@ impl Prefixes {
 
     /// Whether several of the first cards of a kind have its leader's distance, by the answers of the whole register.
     fn is_tied(&self, register: &[u8], cards: usize, kind: u8, leader: Option<Farthest>) -> bool {
-        let kinds = cards_of(register).iter().map(|card| &card[0]);
+        let kinds = cards_of(register).map(|card| card[0]);
         let distances = self.answers.chunks_exact(ANSWER_LEN).map(miles);
-        let as_far = |(of, miles): &(&u8, u16)| **of == kind && leader.is_some_and(|leader| leader.miles == *miles);
+        let as_far = |(of, miles): &(u8, u16)| *of == kind && leader.is_some_and(|leader| leader.miles == *miles);
         kinds.zip(distances).take(cards).filter(as_far).count() > 1
     }
 
@@ -177,9 +177,9 @@ fn answer_words(register: &[u8], untouched: (u64, u64)) -> (u64, u64, u64) {
     (code, toxic, flammable)
 }
 
-/// A register of the first cards of another alone, of version 1, since version 2 stores the distances of all.
+/// A register of the first cards of another alone, of version 1, since the others store the distances of all.
 fn first_cards(register: &[u8], cards: usize) -> Vec<u8> {
-    samples::register_of_bytes(&cards_of(register)[..cards])
+    samples::register_of_bytes(&plain_cards(register)[..cards])
 }
 
 /// A long register: one in two has the nearest cards first, so that the leaders change up to the end, and one in three
@@ -196,8 +196,8 @@ fn long_register(rng: &mut Rng) -> Vec<u8> {
         spoil(rng, &mut cards);
     }
     let register = samples::register(&cards);
-    if rng.one_in(3) {
-        return in_version_2(rng, &register);
+    if !rng.one_in(3) {
+        return in_later_version(rng, &register);
     }
     register
 }

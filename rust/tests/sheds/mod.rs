@@ -53,6 +53,11 @@ impl Answer {
         let rate = u64::from_be_bytes(bytes[6..14].try_into().expect("eight bytes"));
         Answer { route: bytes[4], table: bytes[5], rate, miles: u16::from_be_bytes([bytes[14], bytes[15]]) }
     }
+
+    /// Whether two are found by the same route and table.
+    pub fn is_read_like(&self, other: &Self) -> bool {
+        (self.route, self.table) == (other.route, other.table)
+    }
 }
 
 /// Compares registers one by one and counts what it met of sheds with doors.
@@ -90,7 +95,7 @@ impl Sheds {
 
     fn compare(&mut self, register: &[u8], buffer_len: usize) -> Option<Refused> {
         let refused = self.comparison.compare(register, buffer_len);
-        let cards = cards_of(register).iter().map(|card| card.as_slice()).enumerate();
+        let cards = cards_of(register).enumerate();
         let sheds: Vec<(usize, &[u8])> = cards.filter(|(_, card)| card[0] == 1 && card[3] == SHED_WITH_DOORS).collect();
         if !sheds.is_empty() {
             self.registers += 1;

@@ -3,11 +3,11 @@
 //! Beside the two implementations the test edits a list of cards of its own, so that the file need not repeat them: of an
 //! accepted edit it tells the register's length and the two distances, and every byte of the buffer follows.
 
-use crate::forms::{card, cases_of, distances, hex_bytes, number, refusal, register};
+use crate::forms::{cases_of, distances, hex_bytes, number, refusal, seasonal_card, Register};
 use crate::implementations::{Implementation, IMPLEMENTATIONS};
-use rings_second::reference::{Refused, CARD_LEN};
+use rings_second::reference::{Refused, SEASONAL_CARD_LEN};
 use rings_second::samples::edits::Edit;
-use rings_second::samples::{stored_register, Card};
+use rings_second::samples::seasonal_register;
 use std::collections::BTreeMap;
 
 const CASES: &str = include_str!("../../../tests/edits.txt");
@@ -15,8 +15,11 @@ const CASES: &str = include_str!("../../../tests/edits.txt");
 /// What lies behind a register in a buffer that is longer: no zeros.
 const BEHIND: [u8; 3] = [0x5a, 0xff, 0x01];
 
+/// A card with its season.
+type Card = [u8; SEASONAL_CARD_LEN];
+
 /// The cards of a register by their numbers.
-type Cards = BTreeMap<u32, [u8; CARD_LEN]>;
+type Cards = BTreeMap<u32, Card>;
 
 #[test]
 fn both_edit_as_stored() {
@@ -30,7 +33,7 @@ fn both_edit_as_stored() {
     let results = || cases.iter().flat_map(|case| &case.steps).filter_map(Step::result);
     let refused = results().filter(|result| result.starts_with("refused")).count();
     println!("{} stored registers with {} edits, {refused} of them refused", cases.len(), results().count());
-    for number in [1, 2, 3, 5, 6, 7, 8, 9, 10, 11, 14, 15, 16, 19, 20] {
+    for number in [1, 2, 3, 5, 6, 7, 8, 9, 10, 11, 14, 15, 16, 19, 20, 21] {
         let words = format!("refused {number} at ");
         assert!(results().any(|result| result.starts_with(&words)), "no edit is {words}");
     }
@@ -39,10 +42,7 @@ fn both_edit_as_stored() {
 /// A case as its lines say it.
 struct Case {
     label: &'static str,
-    /// The register's cards and the distances that it stores in version 2, unless its bytes are given.
-    cards: Vec<Card>,
-    stored: Option<[u16; 2]>,
-    raw: Option<Vec<u8>>,
+    register: Register,
     /// The buffer's length, if it is not the register's.
     room: Option<usize>,
     steps: Vec<Step>,
@@ -70,22 +70,14 @@ impl Case {
     }
 
     fn new(label: &'static str) -> Self {
-        Case { label, cards: Vec::new(), stored: None, raw: None, room: None, steps: Vec::new() }
+        Case { label, register: Register::default(), room: None, steps: Vec::new() }
     }
 
     fn add(&mut self, word: &str, rest: &'static str) {
         match word {
-            "card" => self.cards.push(card(rest)),
-            "cards" => {
-                let (count, first) = rest.split_once(' ').expect("how many, and the first");
-                let first = card(first);
-                let numbers = (first.number..).take(number(count));
-                self.cards.extend(numbers.map(|number| Card { number, ..first }));
-            }
-            "stored" => self.stored = Some(distances(rest)),
-            "hex" => self.raw = Some(hex_bytes(rest)),
             "room" => self.room = Some(number(rest)),
             "buffer" => self.steps.push(Step::Buffer(hex_bytes(rest))),
+            _ if self.register.add(word, rest) => {}
             _ => {
                 let (what, result) = rest.split_once(": ").expect("an edit, and its result");
                 self.steps.push(Step::Edit(edit(word, what), result));
@@ -95,7 +87,7 @@ impl Case {
 
     /// The buffer as it is lent first.
     fn buffer(&self) -> Vec<u8> {
-        let mut buffer = self.raw.clone().unwrap_or_else(|| register(&self.cards, self.stored));
+        let mut buffer = self.register.bytes();
         let room = self.room.unwrap_or(buffer.len());
         let behind = BEHIND.iter().copied().cycle().take(room.saturating_sub(buffer.len()));
         buffer.extend(behind);
@@ -106,7 +98,7 @@ impl Case {
     /// Panics where an implementation does otherwise.
     fn run(&self, by: &Implementation) {
         let mut buffer = self.buffer();
-        let mut cards = self.cards.iter().map(|card| (card.number, card.bytes())).collect();
+        let mut cards = self.register.cards.iter().map(|card| (number_of(card), *card)).collect();
         for step in &self.steps {
             let place = format!("{}: {}", self.label, by.name);
             match step {
@@ -125,7 +117,7 @@ fn hold(by: &Implementation, buffer: &mut [u8], cards: &mut Cards, edit: &Edit, 
             change(cards, edit);
             let left: Vec<_> = cards.values().copied().collect();
             assert_eq!(length, number(told), "{place}: {edit:?}");
-            assert_eq!(buffer[..length], stored_register(&left, distances(stored)), "{place}: {edit:?}");
+            assert_eq!(buffer[..length], seasonal_register(&left, distances(stored)), "{place}: {edit:?}");
         }
         (Err(refused), None) => assert_eq!(refusal(refused), expected, "{place}: {edit:?}"),
         _ => panic!("{place}: {edit:?} gives {result:?}, not {expected}"),
@@ -134,16 +126,19 @@ fn hold(by: &Implementation, buffer: &mut [u8], cards: &mut Cards, edit: &Edit, 
 
 fn edit(word: &str, what: &str) -> Edit {
     match word {
-        "add" => Edit::Add(card(what).bytes()),
-        "replace" => Edit::Replace(card(what).bytes()),
+        "add" => Edit::Add(seasonal_card(what)),
+        "replace" => Edit::Replace(seasonal_card(what)),
         "withdraw" => Edit::Withdraw(what.parse().expect("a card number")),
         _ => panic!("no edit: {word} {what}"),
     }
 }
 
+fn number_of(card: &Card) -> u32 {
+    u32::from_be_bytes([card[20], card[21], card[22], card[23]])
+}
+
 /// An accepted edit of a list of cards.
 fn change(cards: &mut Cards, edit: &Edit) {
-    let number_of = |card: &[u8; CARD_LEN]| u32::from_be_bytes([card[20], card[21], card[22], card[23]]);
     let was_there = match edit {
         Edit::Add(card) | Edit::Replace(card) => cards.insert(number_of(card), *card).is_some(),
         Edit::Withdraw(number) => cards.remove(number).is_some(),

@@ -2,7 +2,9 @@
 
 #[cfg(feature = "proved")]
 use rings_second::proved;
-use rings_second::reference::{self, Accepted, ExactRate, Likely, Refused, ANSWER_LEN, CARD_LEN};
+use rings_second::reference::{
+    self, Accepted, ExactRate, Likely, Refused, Year, ANSWER_LEN, CARD_LEN, SEASONAL_CARD_LEN,
+};
 use rings_second::samples::cards_of;
 use rings_second::samples::edits::Edit;
 
@@ -13,12 +15,14 @@ const PATTERN: [u8; 7] = [0xa5, 0x5a, 0xff, 0x00, 0x2c, 0x30, 0x0a];
 type Exact = fn(&[u8; CARD_LEN]) -> Result<ExactRate, Refused>;
 
 /// An edit that hands a card in, and gives the register's new length or a refusal.
-type EditByCard = fn(&mut [u8], &[u8; CARD_LEN]) -> Result<usize, Refused>;
+type EditByCard = fn(&mut [u8], &[u8; SEASONAL_CARD_LEN]) -> Result<usize, Refused>;
 
 pub struct Implementation {
     pub name: &'static str,
     answer: fn(&[u8], &mut [u8]) -> Result<Accepted, Refused>,
     leaders_after: fn(&[u8], usize) -> Result<Accepted, Refused>,
+    farthest_on: fn(&[u8], u32) -> Result<Accepted, Refused>,
+    year: fn(&[u8]) -> Result<Year, Refused>,
     read_lines: fn(&[u8], &mut [u8]) -> Result<usize, Refused>,
     write_lines: fn(&[u8], &mut [u8]) -> Result<usize, Refused>,
     likely: fn(&[u8; CARD_LEN], u64, u32) -> Result<Likely, Refused>,
@@ -33,6 +37,8 @@ pub static IMPLEMENTATIONS: &[Implementation] = &[
         name: "the reference",
         answer: reference::answer,
         leaders_after: reference::leaders_after,
+        farthest_on: reference::farthest_on,
+        year: reference::year,
         read_lines: reference::read_lines,
         write_lines: reference::write_lines,
         likely: reference::likely,
@@ -46,6 +52,8 @@ pub static IMPLEMENTATIONS: &[Implementation] = &[
         name: "the proved library",
         answer: proved::answer,
         leaders_after: proved::leaders_after,
+        farthest_on: proved::farthest_on,
+        year: proved::year,
         read_lines: proved::read_lines,
         write_lines: proved::write_lines,
         likely: proved::likely,
@@ -71,6 +79,16 @@ impl Implementation {
     /// The farthest cards among the first so many of a register.
     pub fn leaders_after(&self, register: &[u8], cards: usize) -> Result<Accepted, Refused> {
         (self.leaders_after)(register, cards)
+    }
+
+    /// The farthest cards of a register among those in force on a day.
+    pub fn farthest_on(&self, register: &[u8], day: u32) -> Result<Accepted, Refused> {
+        (self.farthest_on)(register, day)
+    }
+
+    /// The farthest cards of a register in a year, and the earliest days with their distances.
+    pub fn year(&self, register: &[u8]) -> Result<Year, Refused> {
+        (self.year)(register)
     }
 
     /// The alternative distance of a card at a rate that lasts for some minutes.

@@ -1,9 +1,8 @@
 //! The leaders of `tests/prefixes.txt`; the README beside it tells its form.
 
-use crate::forms::{card, cases_of, distances, hex_bytes, number, refusal, register};
+use crate::forms::{cases_of, leaders, number, refusal, Register};
 use crate::implementations::IMPLEMENTATIONS;
-use rings_second::reference::{Accepted, Farthest, Refused};
-use rings_second::samples::Card;
+use rings_second::reference::{Accepted, Refused};
 
 const CASES: &str = include_str!("../../../tests/prefixes.txt");
 
@@ -12,10 +11,10 @@ fn both_lead_as_stored() {
     let cases = Case::all();
     for case in &cases {
         assert!(!case.expected.is_empty(), "{}: nothing is asked", case.label);
-        let register = case.raw.clone().unwrap_or_else(|| register(&case.cards, case.stored));
+        let register = case.register.bytes();
         for (cards, expected) in &case.expected {
             for implementation in IMPLEMENTATIONS {
-                let met = leaders(implementation.leaders_after(&register, *cards));
+                let met = led(implementation.leaders_after(&register, *cards));
                 assert_eq!(met, *expected, "{}, after {cards}: {}", case.label, implementation.name);
             }
         }
@@ -29,11 +28,7 @@ fn both_lead_as_stored() {
 /// A case as its lines say it.
 struct Case {
     label: &'static str,
-    /// The register's cards, unless its bytes are given.
-    cards: Vec<Card>,
-    raw: Option<Vec<u8>>,
-    /// The distances that it stores, in version 2.
-    stored: Option<[u16; 2]>,
+    register: Register,
     /// How many cards, and the leaders after them.
     expected: Vec<(usize, &'static str)>,
 }
@@ -44,34 +39,24 @@ impl Case {
     }
 
     fn new(label: &'static str) -> Self {
-        Case { label, cards: Vec::new(), raw: None, stored: None, expected: Vec::new() }
+        Case { label, register: Register::default(), expected: Vec::new() }
     }
 
     fn add(&mut self, word: &str, rest: &'static str) {
         match word {
-            "card" => self.cards.push(card(rest)),
-            "hex" => self.raw = Some(hex_bytes(rest)),
-            "stored" => self.stored = Some(distances(rest)),
             "after" => {
                 let (cards, leaders) = rest.split_once(": ").expect("how many cards, and the leaders");
                 self.expected.push((number(cards), leaders));
             }
-            _ => panic!("{}: {word} {rest}", self.label),
+            _ => assert!(self.register.add(word, rest), "{}: {word} {rest}", self.label),
         }
     }
 }
 
 /// A result in the words of the file.
-fn leaders(result: Result<Accepted, Refused>) -> String {
-    match result {
-        Ok(Accepted { toxic, flammable }) => format!("T {}, F {}", leader(toxic), leader(flammable)),
+fn led(result: Result<Accepted, Refused>) -> String {
+    match result.map(leaders) {
+        Ok([toxic, flammable]) => format!("T {toxic}, F {flammable}"),
         Err(refused) => refusal(refused),
-    }
-}
-
-fn leader(farthest: Option<Farthest>) -> String {
-    match farthest {
-        Some(Farthest { card, miles }) => format!("{card} {}.{:02}", miles / 100, miles % 100),
-        None => "none".to_string(),
     }
 }

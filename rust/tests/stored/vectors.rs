@@ -4,13 +4,13 @@ use crate::edits;
 use crate::forms::name_of;
 use crate::implementations::{Implementation, IMPLEMENTATIONS};
 use crate::rates;
-use rings_second::reference::{Accepted, Farthest, Likely, Refused};
+use rings_second::reference::{Accepted, Farthest, Likely, Refused, Year};
 use rings_second::samples::edits::Edit;
 use std::fs;
 use std::path::Path;
 
 /// The result of an implementation in the words of a file, from the input's bytes and the numbers beside them: the length
-/// of the buffer, how many cards, or a rate and a duration.
+/// of the buffer, how many cards, a day, or a rate and a duration.
 type Answer = fn(&Implementation, &[u8], &[u64]) -> String;
 
 /// What the columns of a file are.
@@ -25,7 +25,8 @@ enum Columns {
 }
 
 /// The files, and how an implementation is held to their lines.
-const FILES: [(&str, Columns); 7] = [
+const FILES: [(&str, Columns); 9] = [
+    ("day.tsv", Columns::Result(|by, register, day| led(by.farthest_on(register, only(day))))),
     ("edits.tsv", Columns::Edits),
     ("likely.tsv", Columns::Result(likely)),
     ("prefix.tsv", Columns::Result(|by, register, cards| led(by.leaders_after(register, only(cards))))),
@@ -33,6 +34,7 @@ const FILES: [(&str, Columns); 7] = [
     ("read.tsv", Columns::Result(|by, text, room| converted(by.register_of(text, only(room))))),
     ("register.tsv", Columns::Result(|by, register, room| answered(by.answers(register, only(room))))),
     ("write.tsv", Columns::Result(|by, register, room| converted(by.lines_of(register, only(room))))),
+    ("year.tsv", Columns::Result(|by, register, _| over_the_year(by.year(register)))),
 ];
 
 #[test]
@@ -88,11 +90,12 @@ impl Columns {
 }
 
 /// The number beside an input that has no other.
-fn only(numbers: &[u64]) -> usize {
-    let &[number] = numbers else {
-        panic!("one number beside the input, not {numbers:?}");
+fn only<N: TryFrom<u64>>(numbers: &[u64]) -> N {
+    let number = match *numbers {
+        [number] => N::try_from(number).ok(),
+        _ => None,
     };
-    number as usize
+    number.unwrap_or_else(|| panic!("one number beside the input, not {numbers:?}"))
 }
 
 fn likely(by: &Implementation, card: &[u8], query: &[u64]) -> String {
@@ -120,7 +123,7 @@ fn edited(by: &Implementation, mut buffer: Vec<u8>, list: &str, place: &str) -> 
 
 fn edit_of(text: &str) -> Edit {
     let (word, what) = text.split_once(' ').expect("what is done, and with which card");
-    let card = || bytes(what).try_into().expect("24 bytes");
+    let card = || bytes(what).try_into().expect("28 bytes");
     match word {
         "add" => Edit::Add(card()),
         "replace" => Edit::Replace(card()),
@@ -139,6 +142,15 @@ fn answered(result: Result<(Vec<u8>, Accepted), Refused>) -> String {
 fn led(result: Result<Accepted, Refused>) -> String {
     match result {
         Ok(accepted) => format!("ok {}", both_farthest(accepted)),
+        Err(refused) => refusal(refused),
+    }
+}
+
+fn over_the_year(result: Result<Year, Refused>) -> String {
+    match result {
+        Ok(Year { farthest: Accepted { toxic, flammable }, toxic_day, flammable_day }) => {
+            format!("ok {} {toxic_day} {} {flammable_day}", farthest(toxic), farthest(flammable))
+        }
         Err(refused) => refusal(refused),
     }
 }

@@ -2,7 +2,9 @@
 
 use super::{read_lines, write_lines, MAX_LINE, MAX_STRICT_LINE};
 use crate::reference::{answer, Refused, ANSWER_LEN, CARD_LEN, HEADER_LEN, MAX_CARDS, MAX_LEN};
-use crate::samples::{accepted_cards, as_version_2, cards_of, register, stored_register, Card, Rng};
+use crate::samples::seasons::{Season, WHOLE_YEAR};
+use crate::samples::{accepted_cards, as_version_2, as_version_3, plain_cards, register};
+use crate::samples::{seasonal_register, stored_register, Card, Rng};
 
 /// Document 01's three cards in strict form.
 const EXAMPLE: &str = "1,2,2,0,7782-50-5,2500,0,0,0,11,\n\
@@ -385,11 +387,24 @@ fn version_2_is_not_written() {
     assert!(answer(&stored, &mut [0; 3 * ANSWER_LEN]).is_ok());
     assert_eq!(write(&stored), refused(2, 0));
     // Right after 1, so whatever its count, its cards and its distances are.
-    let high_wall = register(&[Card { wall: 10_001, ..bromine() }]);
-    assert_eq!(write(&stored_register(cards_of(&high_wall), [0, 0])), refused(2, 0));
-    assert_eq!(write(&stored_register(cards_of(&stored), [1, 2])), refused(2, 0));
+    let high_wall = Card { wall: 10_001, ..bromine() };
+    assert_eq!(write(&stored_register(&[high_wall.bytes()], [0, 0])), refused(2, 0));
+    assert_eq!(write(&stored_register(&plain_cards(&stored), [1, 2])), refused(2, 0));
     assert_eq!(write(&[0, 0, 0, 7, 2, 0xff, 0xff]), refused(2, 0));
     assert_eq!(write(&[0, 0, 0, 8, 2, 0, 0]), refused(1, 0));
+}
+
+#[test]
+fn version_3_is_not_written_either() {
+    let seasonal = as_version_3(&mut Rng::new(10), &register(&example()));
+    assert!(answer(&seasonal, &mut [0; 3 * ANSWER_LEN]).is_ok());
+    assert_eq!(write(&seasonal), refused(2, 0));
+    // Not even for the whole year, and whatever its seasons are.
+    for season in [WHOLE_YEAR, Season { first: 0, ..WHOLE_YEAR }] {
+        assert_eq!(write(&seasonal_register(&[bromine().in_season(season)], [180, 0])), refused(2, 0));
+    }
+    assert_eq!(write(&[0, 0, 0, 7, 3, 0xff, 0xff]), refused(2, 0));
+    assert_eq!(write(&[0, 0, 0, 8, 3, 0, 0]), refused(1, 0));
 }
 
 #[test]
