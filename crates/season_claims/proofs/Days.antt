@@ -105,7 +105,7 @@ module _ (c : Class) (day : ℕ) (first second : List ℕ) (h : CoveredOn c day 
       let other = answer_in_force (card_at second y.0) z.2 day z.0 z.3 y.2 in
       let there = to_day day ys y.0 z.0 z.1 other in
       let n = cards_ordered (card_at first j) (card_at second y.0) x.1 z.2 y.3 x.2 z.3 in
-      (there.0, z.0, there.1, sym {b = z.0.class} n.class ∙ k, n.distance)
+      (there.0, z.0, there.1, sym n.class ∙ k, n.distance)
 
   ordered : NoFarther (farthest_of c (in_force_on day xs)) (farthest_of c (in_force_on day ys))
   ordered = no_farther c (in_force_on day xs) (in_force_on day ys) matched

@@ -1,3 +1,4 @@
 pub mod Days
 pub mod Year
+pub mod Edited
 pub mod Exactly

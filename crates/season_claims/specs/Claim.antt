@@ -1,7 +1,7 @@
 -- Document 02, A10, in the paper's words: what a day's farthest cards and the year's say of the bytes of a register. The theorems are
 -- those of proofs/Days.antt and Year.antt, each under the name of its claim.
 -- Assumes nothing.
-use Rattle.std.specs.Prelude.{ℕ, ◌≤◌, ◌<◌, ◌≡◌, true, List, ◌↔◌, Some, None, Result, Ok, Err}
+use Rattle.std.specs.Prelude.{ℕ, ◌≤◌, ◌<◌, ◌≡◌, true, List, [], ◌↔◌, Some, None, Result, Ok, Err}
 use Rattle.refusals.specs.declared.SentBack.{SentBack}
 use Rattle.buffer.specs.Numbers.{byte_at}
 use Rattle.seasons.specs.Seasons.{season_of, in_force}
@@ -15,6 +15,8 @@ use Rattle.cards.specs.Distances.{distances_of}
 use Rattle.cards.specs.Register.{outcome_of}
 use Rattle.ordering.specs.Order.{kind_of, Counterpart}
 use Rattle.ordering.specs.Claim.{card_at, farthest_in}
+use Rattle.edits.specs.Edits.{Edit, held}
+use Rattle.edit_history.specs.Claim.{WholeCards, after_all, accepted, StartsAccepted}
 use Rattle.by_day.specs.declared.Year.{Year}
 use Rattle.by_day.specs.Day.{day_of}
 use Rattle.by_day.specs.Year.{year_of}
@@ -113,3 +115,11 @@ HeaderKeepsYear =
     (register : List ℕ) (year : Year)
     → (layout_in register).stores ≡ true → year_of register ≡ Ok year
     → stored_at register ≡ distances_of year.leaders
+
+-- "The header keeps the year's values", once an edit was accepted: whatever the register was before, for every list of edits, accepted and
+-- refused ones mixed
+abbrev pub EditsKeepYear : Type 0
+EditsKeepYear =
+    (first : List ℕ) (edits : List Edit) → StartsAccepted first → WholeCards edits
+    → (accepted edits first ≡ [] → ⊥)
+    → (year : Year) × (year_of (held (after_all edits first)) ≡ Ok year) × (stored_at (held (after_all edits first)) ≡ distances_of year.leaders)
