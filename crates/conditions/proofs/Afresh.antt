@@ -33,13 +33,13 @@ use Rattle.conditions.specs.First.{passed, refused, first_of}
 -- ---- every card has passed
 
 -- a list that passes has no condition that holds, and one that refuses has
-none_met : (cs : List Condition) → first_of cs ≡ passed → any_of (map met cs) ≡ false
+pub none_met : (cs : List Condition) → first_of cs ≡ passed → any_of (map met cs) ≡ false
 unfolding first_of
 none_met [] e = refl
 none_met (condition r true ∷ rest) e = clash (cc)
 none_met (condition r false ∷ rest) e = none_met rest e
 
-some_met : (cs : List Condition) (r : Refusal) → first_of cs ≡ refused r → any_of (map met cs) ≡ true
+pub some_met : (cs : List Condition) (r : Refusal) → first_of cs ≡ refused r → any_of (map met cs) ≡ true
 unfolding first_of
 some_met [] r e = clash (cc)
 some_met (condition s true ∷ rest) r e = refl

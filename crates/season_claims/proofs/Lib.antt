@@ -1,0 +1,4 @@
+pub mod Days
+pub mod Year
+pub mod Edited
+pub mod Exactly
