@@ -51,8 +51,8 @@ unfoldable pub lines_at : List ℕ → ℕ → ℕ → List Condition
 lines_at text room place =
     condition refusal.Line (bad_line (lines_of text) place) ∷ room_at (no_room_to_read (lines_of text) room) place
 
--- the writer's 1 and 2, of the whole register. Document 02, A9: "version 2, which the comma writer refuses with 2", right after 1, and
--- so every version but 1
+-- the writer's 1 and 2, of the whole register. Document 02: "version 2, which the comma writer refuses with 2" (A9), right after 1,
+-- "The comma writer refuses version 3 with 2" (A10), and so every version but 1
 unfoldable pub of_writer : List ℕ → List Condition
 of_writer register =
     condition refusal.Length (bad_length register)

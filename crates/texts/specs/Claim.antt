@@ -18,8 +18,8 @@ use Rattle.write_lines.specs.Writing.{fields_of_register, strict_text, writing_o
 abbrev pub Accepted : List ℕ → Type 0
 Accepted register = (buffer : List ℕ) × (leaders : Leaders) × Accepts register buffer leaders
 
--- The registers that lines are written of: accepted ones of version 1. Document 02, A9: "version 2, which the comma writer refuses
--- with 2".
+-- The registers that lines are written of: accepted ones of version 1. Document 02: "version 2, which the comma writer
+-- refuses with 2" (A9), "The comma writer refuses version 3 with 2" (A10).
 abbrev pub Writable : List ℕ → Type 0
 Writable register = Accepted register × (version_of register ≡ 1)
 

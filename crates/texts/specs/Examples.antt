@@ -1,5 +1,5 @@
 -- Document 01's register of three cards and its comma lines: the strict text of the register, and what reads into it; and how the writer
--- answers where the register is of version 2.
+-- answers where the register is of version 2 or 3.
 -- Assumes nothing.
 use Rattle.std.specs.Prelude.{ℕ, ◌≡◌, refl, List, [], ◌∷◌, ◌++◌, replicate, take, drop, Err}
 use Rattle.refusals.specs.Numbers.{refused_at}
@@ -40,7 +40,7 @@ pub three_cards : (strict_text register ≡ strict)
 unfolding ascii register strict keyed two_bytes four_bytes digits padded read_from pieces closed skip chop bare read_on number_in hyphened unhyphened cas_in heat_in value_in fields_of fields_in tenths_form lasts_in amounts_in codes_in line_of lines_of cards_from cards_in card_bytes bytes_of header_bytes register_of bad_room read_into cas_text heat_text tenths_text field_texts strict_line strict_lines layout_of layout_in cards_laid fields_of_register strict_text
 three_cards = (refl, refl, refl)
 
--- ---- version 2
+-- ---- versions 2 and 3
 
 -- the three cards behind this count, with their two farthest distances, 1.80 and 0.18 miles
 unfoldable pub storing : ℕ → List ℕ
@@ -53,3 +53,13 @@ pub version_2 : (writing_of (storing 3) 1_000 ≡ Err (refused_at refusal.Versio
     × (writing_of (storing 4) 1_000 ≡ Err (refused_at refusal.Version 0))
 unfolding storing register writing_of writable bad_length other_version
 version_2 = (refl, refl, refl)
+
+-- propane in a register of version 3, in force from 1 to 366
+unfoldable pub seasonal : List ℕ
+seasonal = (0 ∷ 0 ∷ 0 ∷ 39 ∷ 3 ∷ 0 ∷ 1 ∷ 0 ∷ 0 ∷ 0 ∷ 18 ∷ []) ++ (drop 55 register ++ (0 ∷ 1 ∷ 1 ∷ 110 ∷ []))
+
+-- A10: "The comma writer refuses version 3 with 2"
+pub version_3 : (writing_of seasonal 1_000 ≡ Err (refused_at refusal.Version 0))
+    × (writing_of (take 38 seasonal) 1_000 ≡ Err (refused_at refusal.Length 0))
+unfolding seasonal register writing_of writable bad_length other_version
+version_3 = (refl, refl)

@@ -20,7 +20,8 @@ fields_of_register bytes = map fields_of (cards_in bytes)
 unfoldable pub strict_text : List ℕ → List ℕ
 strict_text bytes = strict_lines (fields_of_register bytes)
 
--- document 02, A9: "version 2, which the comma writer refuses with 2", and so every version but 1, which is what lines are read into
+-- document 02: "version 2, which the comma writer refuses with 2" (A9), "The comma writer refuses version 3 with 2" (A10), and so every
+-- version but 1, which is what lines are read into
 unfoldable pub other_version : List ℕ → Bool
 other_version bytes = not (eqb (version_of bytes) 1)
 
