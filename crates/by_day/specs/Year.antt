@@ -8,6 +8,7 @@ use Rattle.card.specs.declared.Class.{Class}
 use Rattle.card.specs.declared.Class.TheVariants as class
 use Rattle.card.specs.declared.Answer.{Answer}
 use Rattle.farthest.specs.declared.Leader.{Leader}
+use Rattle.farthest.specs.declared.Leaders.{Leaders}
 use Rattle.farthest.specs.Farthest.{farthest_of, leaders_of}
 use Rattle.header.specs.Header.{enough, header_of}
 use Rattle.cards.specs.Register.{Cards, answers, sent_back, cards_of}
@@ -54,3 +55,15 @@ year_behind (Err r) bytes = Err (refused_at r 0)
 -- what the call answers for these bytes; no answer buffer is lent, so that number 4 never comes
 unfoldable pub year_of : List ℕ → Result Year (SentBack ℕ)
 year_of bytes = year_behind (header_of bytes enough) bytes
+
+-- ---- what is told of a year
+
+-- the day that a year tells of a class
+abbrev pub day_told : Class → Year → ℕ
+day_told class.Toxic year = year.toxic_day
+day_told class.Flammable year = year.flammable_day
+
+-- and the farthest cards in its result
+abbrev pub leaders_told : Result Year (SentBack ℕ) → Result Leaders (SentBack ℕ)
+leaders_told (Ok year) = Ok year.leaders
+leaders_told (Err sent) = Err sent

@@ -14,7 +14,7 @@ use Rattle.cards.specs.Register.{cards_from, settled, result_of}
 use Rattle.edits.specs.Edits.{edit_layout, changed, after_old}
 use Rattle.edit_walk.specs.Parts.{part_of, leads_behind}
 
--- a good header, and room in a buffer of the code's own for a register of a card more, at version 2
+-- a good header, and room in a buffer of the code's own for a register of a card more, at version 3
 abbrev pub Ready : List ℕ → ℕ → Type 0
 Ready register room = (header_of register enough ≡ Ok (count_of register)) × (size_of edit_layout (count_of register + 1) ≤ room)
 

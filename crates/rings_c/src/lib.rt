@@ -9,11 +9,11 @@ ghost use Rattle.card.specs.declared.Class.TheVariants.{Toxic, Flammable};
 ghost use Rattle.cards.specs.Register.{outcome_of, buffer_of};
 ghost use Rattle.prefix.specs.Prefix.{prefix_of};
 ghost use Rattle.by_day.specs.Day.{day_of};
-ghost use Rattle.by_day.specs.Year.{year_of};
+ghost use Rattle.by_day.specs.Year.{leaders_told, year_of};
 ghost use Rattle.edits.specs.Edits.{add, replace, withdraw, edit_of, buffer_after};
 ghost use Rattle.comma.specs.Text.{reading_of, read_into};
 ghost use Rattle.write_lines.specs.Writing.{writing_of, write_into};
-ghost use Rattle.words.specs.Words.{code_of, word_after, leaders_in, day_after, conversion_code, conversion_at, flag_of};
+ghost use Rattle.words.specs.Words.{code_of, word_after, day_after, conversion_code, conversion_at, flag_of};
 ghost use Rattle.encode.specs.Bytes.{is_old};
 ghost use Rattle.likely_scenario.specs.LikelyScenario.{likely_of};
 ghost use Rattle.likely_words.specs.LikelyWords.{likely_code, table_after, found_after, hundredths_after};
@@ -63,7 +63,8 @@ pub extern "C" fn rings_day(register: &[u8], day: u32, toxic: &mut u64, flammabl
     words::tell(outcome, toxic, flammable)
 }
 
-// Tells the farthest cards of the year, and the earliest day on which they are in force; a day of 0 for a class without cards.
+// Tells the farthest cards of the year, and for each class the earliest day whose farthest card is as far; a day of 0 for a class without
+// cards.
 #[unsafe(no_mangle)]
 pub extern "C" fn rings_year(
     register: &[u8],
@@ -72,9 +73,9 @@ pub extern "C" fn rings_year(
     toxic_day: &mut u64,
     flammable_day: &mut u64,
 ) -> u64
-    ensures value { result ≡ code_of (leaders_in (year_of register.now)) }
-    ensures toxic_after { toxic.new ≡ word_after Toxic (leaders_in (year_of register.now)) toxic.old }
-    ensures flammable_after { flammable.new ≡ word_after Flammable (leaders_in (year_of register.now)) flammable.old }
+    ensures value { result ≡ code_of (leaders_told (year_of register.now)) }
+    ensures toxic_after { toxic.new ≡ word_after Toxic (leaders_told (year_of register.now)) toxic.old }
+    ensures flammable_after { flammable.new ≡ word_after Flammable (leaders_told (year_of register.now)) flammable.old }
     ensures toxic_day_after { toxic_day.new ≡ day_after Toxic (year_of register.now) toxic_day.old }
     ensures flammable_day_after { flammable_day.new ≡ day_after Flammable (year_of register.now) flammable_day.old }
 {

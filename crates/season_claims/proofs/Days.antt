@@ -51,10 +51,10 @@ pub record DayTold (day : ℕ) (xs : List Answer) (m : Leaders) : Type 0 where
   pub good : bad_day day ≡ false
   pub leads : leaders_of (in_force_on day xs) ≡ m
 
-pub day_told : (bytes : List ℕ) (day : ℕ) (m : Leaders) {l : Leaders} (e : outcome_of bytes enough ≡ Ok l) → day_of bytes day ≡ Ok m
+pub day_found : (bytes : List ℕ) (day : ℕ) (m : Leaders) {l : Leaders} (e : outcome_of bytes enough ≡ Ok l) → day_of bytes day ≡ Ok m
     → DayTold day (found bytes enough e).list m
 unfolding leaders_on
-day_told bytes day m e q = go (bad_day day) refl (sym (day_is bytes day e) ∙ q)
+day_found bytes day m e q = go (bad_day day) refl (sym (day_is bytes day e) ∙ q)
   where
     go : (b : Bool) → bad_day day ≡ b → unless_bad b (leaders_on day (found bytes enough e).list) ≡ Ok m → DayTold day (found bytes enough e).list m
     go true k z = clash (cc)
@@ -65,7 +65,7 @@ day_told bytes day m e q = go (bad_day day) refl (sym (day_is bytes day e) ∙ q
 pub on_every_day : OnEveryDay
 on_every_day register day = (
   (λ a.
-      let f = day_accepted register day a.0 a.1 in (f, day_within day (day_told register day a.0 f.1 a.1).good)),
+      let f = day_accepted register day a.0 a.1 in (f, day_within day (day_found register day a.0 f.1 a.1).good)),
   (λ a.
       let e = a.0.1 in (
         leaders_on day (found register enough e).list,
@@ -115,6 +115,6 @@ days_ordered c day first second l m p q h =
     let x = day_accepted first day l p in
     let y = day_accepted second day m q in
     subst₂ NoFarther
-    (in_result c (in_force_on day (found first enough x.1).list) (day_told first day l x.1 p).leads)
-    (in_result c (in_force_on day (found second enough y.1).list) (day_told second day m y.1 q).leads)
+    (in_result c (in_force_on day (found first enough x.1).list) (day_found first day l x.1 p).leads)
+    (in_result c (in_force_on day (found second enough y.1).list) (day_found second day m y.1 q).leads)
     (ordered c day first second h x.1 y.1)

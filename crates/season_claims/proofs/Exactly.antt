@@ -22,7 +22,7 @@ use Rattle.conditions.proofs.Tables.{Passes, Refuses, exactly_by}
 use Rattle.conditions.proofs.Exactly.{Told, told, refused_exactly}
 use Rattle.by_day.specs.Day.{leaders_on, unless_bad, day_of}
 use Rattle.by_day.specs.Year.{year_from}
-use Rattle.season_claims.specs.Claim.{leaders_told}
+use Rattle.by_day.specs.Year.{leaders_told}
 use Rattle.season_claims.specs.Conditions.{YearExactly, none_below, is_accepted, of_named, day_conditions_at, DayExactly}
 use Rattle.season_claims.proofs.Days.{day_is, day_refused}
 use Rattle.season_claims.proofs.Year.{year_is, year_refused, year_whole}

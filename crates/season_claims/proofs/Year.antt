@@ -20,7 +20,7 @@ use Rattle.ordering.proofs.Order.{class_is}
 use Rattle.prefix.proofs.Kept.{same_class}
 use Rattle.ordering.proofs.Ordering.{in_result}
 use Rattle.by_day.specs.Day.{in_force_on, leaders_on, unless_bad, day_of}
-use Rattle.season_claims.proofs.Days.{day_is, day_told}
+use Rattle.season_claims.proofs.Days.{day_is, day_found}
 use Rattle.by_day.proofs.Standing.{from_day, on_day_at_most}
 use Rattle.by_day.proofs.Reached.{Good, reached, earliest, no_cards}
 use Rattle.by_day.proofs.Years.{good_seasons}
@@ -30,8 +30,8 @@ use Rattle.cards.specs.Distances.{distances_of, differ, wrong_for}
 use Rattle.cards.specs.Register.{outcome_of}
 use Rattle.ordering.proofs.Found.{found, found_cards, from_card, to_card}
 use Rattle.by_day.specs.declared.Year.{Year}
-use Rattle.by_day.specs.Year.{has_distance, farthest_on, earliest_day, year_from, year_of}
-use Rattle.season_claims.specs.Claim.{DayOfYear, day_in, FarOn, YearReached, YearExceeded, YearEarliest, NoCardOf, NoDay, leaders_told, YearWhole, HeaderKeepsYear}
+use Rattle.by_day.specs.Year.{has_distance, farthest_on, earliest_day, year_from, year_of, day_told, leaders_told}
+use Rattle.season_claims.specs.Claim.{DayOfYear, FarOn, YearReached, YearExceeded, YearEarliest, NoCardOf, NoDay, YearWhole, HeaderKeepsYear}
 
 -- ---- the call
 
@@ -87,7 +87,7 @@ pub year_exceeded : YearExceeded
 year_exceeded c register year day m e q =
     let f = year_found register year e in
     subst₂ NoFarther
-    (in_result c (in_force_on day (list register year f)) (day_told register day m f.accepted q).leads)
+    (in_result c (in_force_on day (list register year f)) (day_found register day m f.accepted q).leads)
     (in_result c (list register year f) (leads register year f))
     (on_day_at_most day c (list register year f))
 
@@ -99,7 +99,7 @@ module _ (c : Class) (register : List ℕ) (year : Year) (f : YearFound register
   farthest_is : farthest_of c xs ≡ farthest_in c year.leaders
   farthest_is = in_result c xs (leads register year f)
 
-  told_day : (k : Class) → earliest_day k xs (farthest_of k xs) ≡ day_in k year
+  told_day : (k : Class) → earliest_day k xs (farthest_of k xs) ≡ day_told k year
   unfolding year_from
   told_day class.Toxic = ap (λ (y : Year). y.toxic_day) f.told
   told_day class.Flammable = ap (λ (y : Year). y.flammable_day) f.told
@@ -124,15 +124,15 @@ module _ (c : Class) (register : List ℕ) (year : Year) (f : YearFound register
       go (Some lead) e w = (m, lead, told, sym (in_result c (in_force_on day xs) refl) ∙ e, grind (arith, nat_tests, w))
 
   module _ (lead : Leader) (e : farthest_in c year.leaders ≡ Some lead) where
-    reached_day : DayOfYear (day_in c year) × FarOn c register (day_in c year) lead.distance.0
+    reached_day : DayOfYear (day_told c year) × FarOn c register (day_told c year) lead.distance.0
     reached_day =
         let r = reached c xs good lead (farthest_is ∙ e) in
         subst (λ day. DayOfYear day × FarOn c register day lead.distance.0) (told_day c)
         ((r.0, r.1), far_on lead.distance.0 (earliest_day c xs (farthest_of c xs)) (r.0, r.1) r.2)
 
-    no_earlier : (day : ℕ) → day < day_in c year → FarOn c register day lead.distance.0 → ⊥
+    no_earlier : (day : ℕ) → day < day_told c year → FarOn c register day lead.distance.0 → ⊥
     no_earlier day h o =
-        let t = day_told register day o.0 f.accepted o.2 in
+        let t = day_found register day o.0 f.accepted o.2 in
         let on : farthest_on c day xs ≡ Some o.1 = in_result c (in_force_on day xs) t.leads ∙ o.3 in
         let has : has_distance (Some o.1) lead.distance.0 ≡ true = grind (arith, nat_tests, o.4) in
         let not = earliest c xs good lead (farthest_is ∙ e) day (day_within day t.good).0 (subst (λ n. day < n) (sym (told_day c)) h) in
@@ -152,14 +152,14 @@ module _ (c : Class) (register : List ℕ) (year : Year) (f : YearFound register
   without : NoCardOf c register → farthest_in c year.leaders ≡ None
   without n = sym farthest_is ∙ none_if c xs (no_answer n)
 
-  zero_exactly : (day_in c year ≡ 0) ↔ NoCardOf c register
+  zero_exactly : (day_told c year ≡ 0) ↔ NoCardOf c register
   zero_exactly =
       let n = no_cards c xs good in
       ((λ z. no_card (n.0 (told_day c ∙ z))), (λ w. sym (told_day c) ∙ n.1 (no_answer w)))
 
   none_on_day : NoCardOf c register → (day : ℕ) (m : Leaders) → day_of register day ≡ Ok m → farthest_in c m ≡ None
   none_on_day n day m q =
-      sym (in_result c (in_force_on day xs) (day_told register day m f.accepted q).leads)
+      sym (in_result c (in_force_on day xs) (day_found register day m f.accepted q).leads)
       ∙ none_if c (in_force_on day xs) (λ i a w k. let on = (from_day day xs i a w).0 in no_answer n on.0 a on.1 k)
 
 pub year_reached : YearReached

@@ -1,5 +1,5 @@
 -- Document 02, A10, in the paper's words: what a day's farthest cards and the year's say of the bytes of a register. The theorems are
--- those of proofs/Days.antt and Year.antt, each under the name of its claim.
+-- those of proofs/Days.antt, Year.antt and Edited.antt, each under the name of its claim.
 -- Assumes nothing.
 use Rattle.std.specs.Prelude.{ℕ, ◌≤◌, ◌<◌, ◌≡◌, true, List, [], ◌↔◌, Some, None, Result, Ok, Err}
 use Rattle.refusals.specs.declared.SentBack.{SentBack}
@@ -19,7 +19,7 @@ use Rattle.edits.specs.Edits.{Edit, held}
 use Rattle.edit_history.specs.Claim.{WholeCards, after_all, accepted, StartsAccepted}
 use Rattle.by_day.specs.declared.Year.{Year}
 use Rattle.by_day.specs.Day.{day_of}
-use Rattle.by_day.specs.Year.{year_of}
+use Rattle.by_day.specs.Year.{day_told, leaders_told, year_of}
 
 -- ---- a day
 
@@ -57,11 +57,6 @@ DaysOrdered =
 
 -- ---- the year
 
--- the day that the year tells of a class
-abbrev pub day_in : Class → Year → ℕ
-day_in class.Toxic year = year.toxic_day
-day_in class.Flammable year = year.flammable_day
-
 -- a day's farthest of a class has a distance, in hundredths of a mile
 abbrev pub FarOn : Class → List ℕ → ℕ → ℕ → Type 0
 FarOn c register day d =
@@ -72,7 +67,7 @@ abbrev pub YearReached : Type 0
 YearReached =
     (c : Class) (register : List ℕ) (year : Year) (lead : Leader)
     → year_of register ≡ Ok year → farthest_in c year.leaders ≡ Some lead
-    → DayOfYear (day_in c year) × FarOn c register (day_in c year) lead.distance.0
+    → DayOfYear (day_told c year) × FarOn c register (day_told c year) lead.distance.0
 
 -- "and exceeded on none"
 abbrev pub YearExceeded : Type 0
@@ -86,7 +81,7 @@ abbrev pub YearEarliest : Type 0
 YearEarliest =
     (c : Class) (register : List ℕ) (year : Year) (lead : Leader) (day : ℕ)
     → year_of register ≡ Ok year → farthest_in c year.leaders ≡ Some lead
-    → day < day_in c year → FarOn c register day lead.distance.0 → ⊥
+    → day < day_told c year → FarOn c register day lead.distance.0 → ⊥
 
 -- "a class without cards"
 abbrev pub NoCardOf : Class → List ℕ → Type 0
@@ -96,14 +91,9 @@ NoCardOf c register = (i : ℕ) → i < count_of register → IsOf c register i 
 abbrev pub NoDay : Type 0
 NoDay =
     (c : Class) (register : List ℕ) (year : Year) → year_of register ≡ Ok year
-    → ((day_in c year ≡ 0) ↔ NoCardOf c register)
+    → ((day_told c year ≡ 0) ↔ NoCardOf c register)
     × (NoCardOf c register
     → (farthest_in c year.leaders ≡ None) × ((day : ℕ) (m : Leaders) → day_of register day ≡ Ok m → farthest_in c m ≡ None))
-
--- the farthest cards in the year's result
-abbrev pub leaders_told : Result Year (SentBack ℕ) → Result Leaders (SentBack ℕ)
-leaders_told (Ok year) = Ok year.leaders
-leaders_told (Err sent) = Err sent
 
 -- "the whole year's farthest" are document 01's of all cards; a register that is sent back gives its own refusal
 abbrev pub YearWhole : Type 0

@@ -9,6 +9,7 @@ use Rattle.card.specs.declared.Class.{Class}
 use Rattle.card.specs.declared.Class.TheVariants as class
 use Rattle.farthest.specs.declared.Leaders.{Leaders}
 use Rattle.by_day.specs.declared.Year.{Year}
+use Rattle.by_day.specs.Year.{day_told}
 
 -- "each none or a card number and a distance": 0 for none, which no card has, since its number is not zero
 unfoldable pub word_of : Option Leader → ℕ
@@ -36,19 +37,9 @@ word_after c (Err sent) before = before
 
 -- ---- the year, document 02, A10
 
--- its farthest cards are told as any call's are
-abbrev pub leaders_in : Result Year (SentBack ℕ) → Result Leaders (SentBack ℕ)
-leaders_in (Ok year) = Ok year.leaders
-leaders_in (Err sent) = Err sent
-
--- the earliest day of a class, "day 0 for a class without cards"
-abbrev pub day_of : Class → Year → ℕ
-day_of class.Toxic year = year.toxic_day
-day_of class.Flammable year = year.flammable_day
-
--- what the call leaves in the word of a class's day
+-- what the call leaves in the word of a class's day, "day 0 for a class without cards"; its farthest cards are told as any call's are
 unfoldable pub day_after : Class → Result Year (SentBack ℕ) → ℕ → ℕ
-day_after c (Ok year) before = day_of c year
+day_after c (Ok year) before = day_told c year
 day_after c (Err sent) before = before
 
 -- ---- conversions and edits

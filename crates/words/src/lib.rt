@@ -3,7 +3,8 @@
 
 ghost use Rattle.std.specs.Prelude.{◌≡◌};
 ghost use Rattle.card.specs.declared.Class.TheVariants.{Toxic, Flammable};
-ghost use Rattle.words.specs.Words.{word_of, refusal_code, code_of, word_after, leaders_in, day_after, conversion_code, conversion_at};
+ghost use Rattle.words.specs.Words.{word_of, refusal_code, code_of, word_after, day_after, conversion_code, conversion_at};
+ghost use Rattle.by_day.specs.Year.{leaders_told};
 
 use by_day::Year;
 use farthest::{Leader, Leaders};
@@ -54,9 +55,9 @@ pub fn tell_year(
     toxic_day: &mut u64,
     flammable_day: &mut u64,
 ) -> u64
-    ensures value { result ≡ code_of (leaders_in found) }
-    ensures toxic_after { toxic.new ≡ word_after Toxic (leaders_in found) toxic.old }
-    ensures flammable_after { flammable.new ≡ word_after Flammable (leaders_in found) flammable.old }
+    ensures value { result ≡ code_of (leaders_told found) }
+    ensures toxic_after { toxic.new ≡ word_after Toxic (leaders_told found) toxic.old }
+    ensures flammable_after { flammable.new ≡ word_after Flammable (leaders_told found) flammable.old }
     ensures toxic_day_after { toxic_day.new ≡ day_after Toxic found toxic_day.old }
     ensures flammable_day_after { flammable_day.new ≡ day_after Flammable found flammable_day.old }
 {
