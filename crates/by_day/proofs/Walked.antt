@@ -1,57 +1,35 @@
 -- The walk that keeps a value (`tally/specs/Tally.antt`) comes to what it keeps of a register, whatever that is.
 -- Assumes nothing.
-use Rattle.std.specs.Prelude.{ℕ, suc, ◌≡◌, refl, List, [], ◌∷◌, Option, Result, Ok, Err}
+use Rattle.std.specs.Prelude.{ℕ, ◌≡◌, refl, List, Option, Result, Ok, Err}
 use Rattle.std.proofs.Common.{◌∙◌, sym, ap}
 use Rattle.search.specs.Laws.{clash}
-use Rattle.refusals.specs.declared.Refusal.{Refusal}
 use Rattle.refusals.specs.declared.SentBack.{SentBack}
-use Rattle.refusals.specs.Numbers.{refused_at}
 use Rattle.card.specs.declared.Answer.{Answer}
-use Rattle.card.specs.Answers.{answer_of}
 use Rattle.farthest.specs.declared.Leaders.{Leaders}
 use Rattle.farthest.specs.Farthest.{leaders_of}
 use Rattle.header.specs.declared.Stored.{Stored}
 use Rattle.running.specs.declared.Running.{Running}
-use Rattle.running.specs.Running.{before_cards, after_card, step_to, step_of, running_after}
+use Rattle.running.specs.Running.{before_cards, running_after}
 use Rattle.running.proofs.Laws.{running_leaders}
 use Rattle.cards.specs.Distances.{held_to}
-use Rattle.cards.specs.Register.{Cards, answers, sent_back, joined, then, cards_from, settled, result_of}
+use Rattle.cards.specs.Register.{Cards, answers, sent_back, cards_from, settled, result_of}
 use Rattle.cards.proofs.Laws.{settled_result, settled_accepted}
-use Rattle.tally.specs.Tally.{go_on, kept_from, kept_after}
+use Rattle.cards.proofs.Walked.{walked_as, walk_is}
+use Rattle.tally.specs.Tally.{kept_from, kept_after}
 use Rattle.by_day.specs.Kept.{kept_result}
 
 module _ {K : Type 0} (after : K → Answer → K) where
-  -- what a walk from running values and a kept value on ends with, where its cards come to this
-  abbrev walked_as : Running → K → Cards → Result (Running × K) (SentBack ℕ)
-  walked_as s k (answers xs) = Ok (running_after s xs, kept_after after k xs)
-  walked_as s k (sent_back r place) = Err (refused_at r place)
-
-  walked_joined : (s : Running) (k : K) (a : Answer) (c : Cards) → walked_as (after_card s a) (after k a) c ≡ walked_as s k (joined a c)
-  unfolding running_after kept_after
-  walked_joined s k a (answers xs) = refl
-  walked_joined s k a (sent_back r place) = refl
-
-  walk_is : (s : Running) (k : K) (cards : List (List ℕ)) → kept_from after s k cards ≡ walked_as s k (cards_from s.place s.last cards)
-  unfolding kept_from step_of cards_from running_after kept_after
-  walk_is s k [] = refl
-  walk_is s k (card ∷ rest) = go (answer_of card s.last) (λ a. walk_is (after_card s a) (after k a) rest)
-    where
-      go : (x : Result Answer Refusal) → ((a : Answer) → kept_from after (after_card s a) (after k a) rest ≡ walked_as (after_card s a) (after k a) (cards_from (suc s.place) a.number rest))
-          → go_on (step_to x s) (λ t a. kept_from after t (after k a) rest) ≡ walked_as s k (then x s.place (λ n. cards_from (suc s.place) n rest))
-      go (Ok a) ih = ih a ∙ walked_joined s k a (cards_from (suc s.place) a.number rest)
-      go (Err r) ih = refl
-
   -- ---- one law for each return of the call that walks
 
   module _ (from : K) (s : Option Stored) (cards : List (List ℕ)) (x : Result (Running × K) (SentBack ℕ)) (e : x ≡ kept_from after before_cards from cards) where
-    came_to : x ≡ walked_as before_cards from (cards_from 0 0 cards)
-    came_to = e ∙ walk_is before_cards from cards
+    came_to : x ≡ walked_as after before_cards from (cards_from 0 0 cards)
+    came_to = e ∙ walk_is after before_cards from cards
 
     -- it stopped at a card
     pub walk_stopped : (sent : SentBack ℕ) → x ≡ Err sent → Err sent ≡ kept_result after from (settled s (cards_from 0 0 cards))
     walk_stopped sent q = go (cards_from 0 0 cards) (sym q ∙ came_to)
       where
-        go : (c : Cards) → Err sent ≡ walked_as before_cards from c → Err sent ≡ kept_result after from (settled s c)
+        go : (c : Cards) → Err sent ≡ walked_as after before_cards from c → Err sent ≡ kept_result after from (settled s c)
         go (answers xs) u = clash (cc)
         go (sent_back r place) u = cc
 
@@ -67,7 +45,7 @@ module _ {K : Type 0} (after : K → Answer → K) where
       unfolding leaders_of
       passed = go (cards_from 0 0 cards) (sym q ∙ came_to)
         where
-          go : (c : Cards) → Ok (t, k) ≡ walked_as before_cards from c → Passed c
+          go : (c : Cards) → Ok (t, k) ≡ walked_as after before_cards from c → Passed c
           go (answers xs) u =
               let both : ◌≡◌ {A = Running × K} (t, k) (running_after before_cards xs, kept_after after from xs) = cc in
               record {

@@ -26,8 +26,8 @@ module _ {K : Type 0} (cards : List (List ℕ)) (after : K → Answer → K) whe
         let more : drop i cards ≡ get_or cards i [] ∷ drop (i + 1) cards = rw (add-one i) (drop-cons cards i [] h) in
         ap (kept_from after s k) more ∙ ap (λ z. go_on z Onward) (ap (step_of s) (sym there) ∙ (sym e ∙ q))
 
-    pub turn_place : (t : Running) (a : Answer) → x ≡ Ok (t, a) → s.place ≡ i → t.place ≡ i + 1
-    turn_place t a q p =
+    pub turn_place : (t : Running) (a : Answer) (from : ℕ) → x ≡ Ok (t, a) → s.place ≡ from + i → t.place ≡ from + (i + 1)
+    turn_place t a from q p =
         let z : t.place ≡ suc s.place = on_place s t a card (sym e ∙ q) in
         omega (arith, z, p)
 

@@ -18,14 +18,18 @@ use Rattle.buffer.proofs.Laws.{sets_append}
 use Rattle.card.specs.declared.Answer.{Answer}
 use Rattle.running.specs.declared.Running.{Running}
 use Rattle.running.specs.Running.{step_of}
-use Rattle.running.proofs.Laws.{on_place}
-use Rattle.walk.specs.Walk.{go_on, walk_from, write_on, text_from}
+use Rattle.tally.proofs.Turns as tally
+use Rattle.walk.specs.Walk.{walk_from, write_on, text_from}
 
 -- what the lent buffer holds is what the writer's does at the end of the walk
 pub held_after : (written : List ℕ) {held after : List ℕ} → held ≡ written → written ≡ after → held ≡ after
 held_after written e q = e ∙ q
 
 module _ (cards : List (List ℕ)) (told : Answer → List ℕ) (most : ℕ) where
+  -- what the walk keeps: how many bytes are written
+  abbrev after : ℕ → Answer → ℕ
+  after n a = n + length (told a)
+
   -- what is left of the walk from a card, running values and a position on
   abbrev pub Left : ℕ → Running → ℕ → Result (Running × ℕ) (SentBack ℕ)
   Left i s at = walk_from told s at (drop i cards)
@@ -42,16 +46,9 @@ module _ (cards : List (List ℕ)) (told : Answer → List ℕ) (most : ℕ) whe
     more : drop i cards ≡ item ∷ drop (i + 1) cards
     more = rw (add-one i) (drop-cons cards i [] h ∙ ap (λ (card : List ℕ). card ∷ drop (suc i) cards) (sym there))
 
-    -- what the walk comes to behind the card, and what it writes of the card and behind it
-    abbrev Onward : ℕ → Running → Answer → Result (Running × ℕ) (SentBack ℕ)
-    Onward at t a = Left (i + 1) t (at + length (told a))
-
+    -- what the walk writes of the card and behind it
     abbrev Written : Running → Answer → List ℕ
     Written t a = told a ++ Unwritten (i + 1) t
-
-    left_is : (at : ℕ) (y : Result (Running × Answer) (SentBack ℕ)) → x ≡ y → Left i s at ≡ go_on y (Onward at)
-    unfolding walk_from
-    left_is at y q = ap (walk_from told s at) more ∙ ap (λ z. go_on z (Onward at)) (sym e ∙ q)
 
     unwritten_is : (y : Result (Running × Answer) (SentBack ℕ)) → x ≡ y → Unwritten i s ≡ write_on y Written
     unfolding text_from
@@ -60,15 +57,13 @@ module _ (cards : List (List ℕ)) (told : Answer → List ℕ) (most : ℕ) whe
     -- a card that is answered: the walk goes on from the next place
     module _ (t : Running) (a : Answer) (q : x ≡ Ok (t, a)) where
       pub turn_place : (from : ℕ) → s.place ≡ from + i → t.place ≡ from + (i + 1)
-      turn_place from k =
-          let z : t.place ≡ suc s.place = on_place s t a item (sym e ∙ q) in
-          omega (arith, z)
+      turn_place from k = tally.turn_place cards after i s 0 h item there x e t a from q k
 
       pub turn_at : (at n : ℕ) → at ≤ most * i → n ≤ at + most → n ≤ most * (i + 1)
       turn_at at n k m = rw (add-one i) (omega (arith, mul-suc (most) i))
 
       pub turn_left : {out after : List ℕ} {at n : ℕ} (whole : Result (Running × ℕ) (SentBack ℕ)) → Wrote out after at n (told a) → Left i s at ≡ whole → Left (i + 1) t n ≡ whole
-      turn_left {at = at} whole p k = ap (Left (i + 1) t) p.place ∙ (sym (left_is at (Ok (t, a)) q) ∙ k)
+      turn_left {at = at} {n} whole p k = tally.turn_left cards after i s at h item there x e t a n whole q p.place k
 
       pub turn_written : {out after : List ℕ} {at n : ℕ} (whole : List ℕ) → Wrote out after at n (told a) → sets out at (Unwritten i s) ≡ whole → sets after n (Unwritten (i + 1) t) ≡ whole
       turn_written {out} {after} {at} {n} whole p k =
@@ -79,7 +74,7 @@ module _ (cards : List (List ℕ)) (told : Answer → List ℕ) (most : ℕ) whe
     -- a card that is refused: the walk ends there, and nothing more is written
     module _ (sent : SentBack ℕ) (q : x ≡ Err sent) where
       pub refused_left : (at : ℕ) (from : Running) → Left i s at ≡ Left 0 from 0 → Err sent ≡ walk_from told from 0 cards
-      refused_left at from k = sym (left_is at (Err sent) q) ∙ k
+      refused_left at from k = tally.refused_left cards after i s at h item there x e sent (walk_from told from 0 cards) q k
 
       pub refused_written : (out before : List ℕ) (at : ℕ) (from : Running) → sets out at (Unwritten i s) ≡ sets before 0 (Unwritten 0 from) → out ≡ sets before 0 (text_from told from cards)
       refused_written out before at from k = ap (sets out at) (sym (unwritten_is (Err sent) q)) ∙ k
@@ -90,8 +85,7 @@ module _ (cards : List (List ℕ)) (told : Answer → List ℕ) (most : ℕ) whe
     none = drop_all i cards h
 
     pub end_left : (s from : Running) (at : ℕ) → Left i s at ≡ Left 0 from 0 → Ok (s, at) ≡ walk_from told from 0 cards
-    unfolding walk_from
-    end_left s from at k = ap (walk_from told s at) (sym none) ∙ k
+    end_left s from at k = tally.end_left cards after i h s at (walk_from told from 0 cards) k
 
     pub end_written : (s from : Running) (out before : List ℕ) (at : ℕ) → sets out at (Unwritten i s) ≡ sets before 0 (Unwritten 0 from) → out ≡ sets before 0 (text_from told from cards)
     unfolding text_from

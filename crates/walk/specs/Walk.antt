@@ -7,6 +7,7 @@ use Rattle.refusals.specs.declared.SentBack.{SentBack}
 use Rattle.card.specs.declared.Answer.{Answer}
 use Rattle.running.specs.declared.Running.{Running}
 use Rattle.running.specs.Running.{step_of}
+use Rattle.tally.specs.Tally.{kept_from}
 
 -- the walk that writes nothing of a card
 abbrev pub nothing_of : Answer → List ℕ
@@ -17,14 +18,9 @@ unfoldable pub texts_of : (Answer → List ℕ) → List Answer → List ℕ
 texts_of told [] = []
 texts_of told (a ∷ rest) = told a ++ texts_of told rest
 
-abbrev pub go_on : Result (Running × Answer) (SentBack ℕ) → (Running → Answer → Result (Running × ℕ) (SentBack ℕ)) → Result (Running × ℕ) (SentBack ℕ)
-go_on (Ok (s, a)) further = further s a
-go_on (Err sent) further = Err sent
-
--- the cards that are left, from the running values and the bytes written so far
-unfoldable pub walk_from : (Answer → List ℕ) → Running → ℕ → List (List ℕ) → Result (Running × ℕ) (SentBack ℕ)
-walk_from told s at [] = Ok (s, at)
-walk_from told s at (card ∷ rest) = go_on (step_of s card) (λ t a. walk_from told t (at + length (told a)) rest)
+-- the cards that are left, from the running values and the bytes written so far: how many these are is what the walk keeps
+abbrev pub walk_from : (Answer → List ℕ) → Running → ℕ → List (List ℕ) → Result (Running × ℕ) (SentBack ℕ)
+walk_from told s at cards = kept_from (λ n a. n + length (told a)) s at cards
 
 abbrev pub write_on : Result (Running × Answer) (SentBack ℕ) → (Running → Answer → List ℕ) → List ℕ
 write_on (Ok (s, a)) further = further s a

@@ -1,4 +1,4 @@
-// The one walk over a register's cards: it takes a step for each card and writes what it is asked to write of it. Who answers a
+// The walk over a register's cards that writes: it takes a step for each card and writes what it is asked to write of it. Who answers a
 // register, who only asks about it, who lists it and who wants the leaders after some of its cards all go by it.
 #![tactic(auto)]
 

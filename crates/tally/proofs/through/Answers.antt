@@ -18,9 +18,9 @@ pub loop-place-preserved : goal.loop-place-preserved
 loop-place-preserved g c =
     let cards = in_turn c.args.cards in
     let h : c.loop-place.place < length cards = omega arith in
-    let place = turn_place cards g.K.Keeps.after c.loop-place.place c.loop-place.running c.loop-place.kept h c.at.result.now c.at.ensures c.step.result c.step.ensures c.in-Ok.next c.in-Ok.answer c.in-Ok.is c.loop-place.invariant.0 in
+    let place = turn_place cards g.K.Keeps.after c.loop-place.place c.loop-place.running c.loop-place.kept h c.at.result.now c.at.ensures c.step.result c.step.ensures c.in-Ok.next c.in-Ok.answer 0 c.in-Ok.is (omega (arith, c.loop-place.invariant.0)) in
     let left = turn_left cards g.K.Keeps.after c.loop-place.place c.loop-place.running c.loop-place.kept h c.at.result.now c.at.ensures c.step.result c.step.ensures c.in-Ok.next c.in-Ok.answer c.keep-kept.result _ c.in-Ok.is c.keep-kept.ensures c.loop-place.invariant.1 in
-    (place, left)
+    (omega (arith, place), left)
 
 pub returns : goal.returns
 returns g c =
