@@ -26,6 +26,19 @@ heat_within cas = bounded (heat_of cas) (look_each cas_of (λ line. Some (heat_i
     bounded None e = tt
     bounded (Some hc) e = leb-true hc 150_000 e
 
+-- and every heat that is printed is above 0
+pub heat_above_zero : (cas : ℕ) → IfSome (heat_of cas) (λ hc. 0 < hc)
+unfolding heat_of c1
+heat_above_zero cas = bounded (heat_of cas) (look_each cas_of (λ line. Some (heat_in line)) cas high c1 None refl refl)
+  where
+    high : Option ℕ → Bool
+    high None = true
+    high (Some hc) = ltb 0 hc
+
+    bounded : (h : Option ℕ) → high h ≡ true → IfSome h (λ hc. 0 < hc)
+    bounded None e = tt
+    bounded (Some hc) e = ltb-true 0 hc e
+
 -- a number that no line has is no substance's, and has no heat
 pub no_heat : (cas : ℕ) → Missed cas (map cas_of c1) → None ≡ heat_of cas
 unfolding heat_of
