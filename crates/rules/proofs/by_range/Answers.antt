@@ -1,12 +1,14 @@
--- `rules::Ranges::read` meets its contract: a rate is below `reaching` of a bound exactly where it does not reach the bound.
+-- `rules::by_range` meets its contract: a rate is below `reaching` of a bound exactly where it does not reach the bound.
 -- Assumes nothing.
 use Rattle.std.proofs.Common.{rules, arith, ℕ, List, suc, ◌+◌, ◌*◌, ◌/◌, ◌≤◌, ◌<◌, length, get_or}
+use Rattle.rules.specs.Rules.{answered}
 use Rattle.rules.proofs.Scaled.{scaled_place}
-use Rattle.rules.proofs.Ranges.read.Goals as goal
+use Rattle.rules.proofs.by_range.Goals as goal
 
 pub returns : goal.returns
-returns g c =
-    let bounds : List ℕ = c.args.self.now.bounds in
+unfolding answered
+returns c =
+    let bounds : List ℕ = c.args.bounds.now in
     let r : ℕ = c.unwrap_or.result in
     let within : r ≤ length bounds = search rules in
     let below : (k : ℕ) → k < r → (get_or bounds k 0 * c.args.endpoint + 999) / 1000 ≤ c.args.rate = search rules in
