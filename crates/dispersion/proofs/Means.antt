@@ -2,7 +2,8 @@
 -- computed from it. At a table each of the equations is closed by computation. And a dense table's reading is its number's.
 -- Assumes nothing.
 use Prim.Native.Nat.{ℕ, zero, suc, ◌+◌, ◌-◌, ◌≤◌, ◌<◌, min}
-use Rattle.std.proofs.Common.{⊎_elim, get_or-append-add}
+use Rattle.std.specs.Prelude.{◌⊎◌}
+use Rattle.std.proofs.Common.{⊎_elim, inl, inr, get_or-append-add}
 use Rattle.std.proofs.Math.ListN.{length-append}
 use native.Mathlib.Nat.{le_of_suc-le-suc, not-suc-le-zero}
 use native.Mathlib.Omega.{arith}
@@ -62,6 +63,15 @@ lines_means table {upto} {rural} {urban} p r u c n topography rate endpoint =
     column : (g : Ground) → column_of g rural urban ≡ running 0 (map (entry_of g) table)
     column Rural = r
     column Urban = u
+
+-- the numbers up to 4
+pub upto_4 : (n : ℕ) → n ≤ 4 → (n ≡ 0) ⊎ ((n ≡ 1) ⊎ ((n ≡ 2) ⊎ ((n ≡ 3) ⊎ (n ≡ 4))))
+upto_4 zero h = inl refl
+upto_4 (suc zero) h = inr (inl refl)
+upto_4 (suc (suc zero)) h = inr (inr (inl refl))
+upto_4 (suc (suc (suc zero))) h = inr (inr (inr (inl refl)))
+upto_4 (suc (suc (suc (suc zero)))) h = inr (inr (inr (inr refl)))
+upto_4 (suc (suc (suc (suc (suc n))))) h = absurd (omega arith)
 
 -- Tables 1 to 4, each for one ground, whichever the card's is; no table has the number 0
 pub neutral_reading : (table : ℕ) → table ≤ 4 → (topography : Ground) (rate endpoint : ℕ)

@@ -1,5 +1,6 @@
 -- `dispersion::read` meets its contract: the constants are what is computed from the printed tables. Assumes nothing.
-use mathlib.Core.Path.{refl, sym, ◌∙◌}
+use mathlib.Core.Path.{◌≡◌, refl, sym, ◌∙◌}
+use Rattle.std.proofs.Common.{⊎_elim}
 use native.Mathlib.Omega.{arith}
 use Rattle.rules.specs.Rules.{distance, larger, thousandths, last_of}
 use Rattle.rules.specs.Cuts.{cuts, cuts_from, climbs, climbs_from}
@@ -7,7 +8,7 @@ use Rattle.rules.specs.Carried.{running}
 use Rattle.dispersion.specs.PrintedChemical.{table9, table10, table11, table12}
 use Rattle.dispersion.specs.Tables.{tables, reading_of}
 use Rattle.dispersion.proofs.Laws.{reading_none}
-use Rattle.dispersion.proofs.Means.{lines_means, neutral_reading, dense_reading}
+use Rattle.dispersion.proofs.Means.{lines_means, upto_4, neutral_reading, dense_reading}
 use Rattle.dispersion.proofs.read.Goals as goal
 
 pub returns-in-9 : goal.returns-in-9
@@ -26,8 +27,15 @@ pub returns-in-12 : goal.returns-in-12
 unfolding reading_of tables running distance cuts cuts_from climbs climbs_from thousandths last_of larger
 returns-in-12 c = rw c.in-12.is (c.read-in-12.ensures ∙ lines_means table12 refl refl refl refl refl _ _ c.args.endpoint)
 
+-- number by number, so that whatever number the reading is asked by, each of them is compared with its own table
 pub returns-in-0-to-4 : goal.returns-in-0-to-4
-returns-in-0-to-4 c = c.read-in-0-to-4.ensures ∙ neutral_reading c.args.table (omega arith) _ _ _
+returns-in-0-to-4 c =
+    ⊎_elim (λ (e : c.args.table ≡ 0). rw e (rw e at c.read-in-0-to-4.ensures ∙ neutral_reading 0 (omega arith) _ _ _))
+    (⊎_elim (λ (e : c.args.table ≡ 1). rw e (rw e at c.read-in-0-to-4.ensures ∙ neutral_reading 1 (omega arith) _ _ _))
+    (⊎_elim (λ (e : c.args.table ≡ 2). rw e (rw e at c.read-in-0-to-4.ensures ∙ neutral_reading 2 (omega arith) _ _ _))
+    (⊎_elim (λ (e : c.args.table ≡ 3). rw e (rw e at c.read-in-0-to-4.ensures ∙ neutral_reading 3 (omega arith) _ _ _))
+    (λ (e : c.args.table ≡ 4). rw e (rw e at c.read-in-0-to-4.ensures ∙ neutral_reading 4 (omega arith) _ _ _)))))
+    (upto_4 c.args.table (omega arith))
 
 pub returns-in-5-to-8 : goal.returns-in-5-to-8
 returns-in-5-to-8 c = c.read-in-5-to-8.ensures ∙ dense_reading c.args.table (omega arith) (omega arith) _ _ _
