@@ -55,9 +55,10 @@ pub fn put_text(out: &mut Writer, text: &[u8])
     requires { Room out.old (length text.now) }
     ensures { Puts out.old out.new text.now }
 {
-    let end = out.at + text.len();
-    out.bytes[out.at..end].copy_from_slice(text);
-    out.at = end;
+    for (place, &b) in text.iter().enumerate() {
+        out.bytes[out.at + place] = b;
+    }
+    out.at += text.len();
 }
 
 // Two bytes, the higher first.

@@ -10,6 +10,7 @@ use mathlib.Core.Path.{◌≡◌, ◌∙◌, refl, ap, sym}
 use mathlib.Core.List.{List, [], ◌∷◌, ◌++◌}
 use lib.ListN.{length, take, drop}
 use lib.Seq.{sets, take_at}
+use Rattle.buffer.specs.Wrote.{Wrote}
 use Rattle.buffer.proofs.Laws.{written_first}
 use Rattle.card.specs.declared.Answer.{Answer}
 use Rattle.farthest.specs.Farthest.{leaders_of}
@@ -61,15 +62,16 @@ module _ (told : Answer → List ℕ) (s : Option Stored) (cards : List (List �
 -- an accepted register has what the walk's buffer holds of the answers copied over its front
 pub copied : (s : Option Stored) (cards : List (List ℕ)) (x : Result (Running × ℕ) (SentBack ℕ)) → x ≡ walk_from answer_bytes before_cards 0 cards
     → (t : Running) (size : ℕ) → x ≡ Ok (t, size) → (h : Result Leaders (SentBack ℕ)) → h ≡ held_to s t.leaders → (l : Leaders) → h ≡ Ok l
-    → (own walked part out : List ℕ) → walked ≡ sets own 0 (text_from answer_bytes before_cards cards) → part ≡ take size walked → 16 * length cards ≤ length own
-    → part ++ drop size out ≡ filled_with (settled s (cards_from 0 0 cards)) out
+    → (own walked part out after : List ℕ) (next : ℕ) → walked ≡ sets own 0 (text_from answer_bytes before_cards cards) → part ≡ take size walked → 16 * length cards ≤ length own
+    → Wrote out after 0 next part → 16 * length cards ≤ length out → after ≡ filled_with (settled s (cards_from 0 0 cards)) out
 unfolding whole
-copied s cards x e t size q h k l u own walked part out f w room =
+copied s cards x e t size q h k l u own walked part out after next f w room wrote fitting =
     let p = passed answer_bytes before_cards cards t size (sym e ∙ q) in
     let b = bytes_of p.list in
     let whole : length b ≡ size = ap length (sym (texts_bytes p.list)) ∙ sym p.sized in
-    let fits : length b ≤ length own = omega (arith, bytes_length p.list, cards_count 0 0 cards p.list p.answered) in
+    let few : length b ≤ 16 * length cards = omega (arith, bytes_length p.list, cards_count 0 0 cards p.list p.answered) in
+    let fits : length b ≤ length own = omega (arith, few) in
     let front : walked ≡ b ++ drop (length b) own = f ∙ (ap (sets own 0) (p.text ∙ texts_bytes p.list) ∙ written_first b own fits) in
     let same : part ≡ b = w ∙ ap (take size) front ∙ take_at b (drop (length b) own) size whole in
-    ap (λ (y : List ℕ). y ++ drop size out) same ∙ ap (λ (n : ℕ). b ++ drop n out) (sym whole)
+    wrote.bytes ∙ ap (sets out 0) same ∙ written_first b out (omega (arith, few))
     ∙ ap (λ c. filled_with c out) (sym (held_answers answer_bytes s cards x e t size q h k l u))

@@ -6,6 +6,7 @@ ghost use Rattle.header.specs.InTurn.{in_turn};
 ghost use Rattle.cards.specs.Distances.{distance_in, distances_of, wrong_for, held_to};
 ghost use Rattle.cards.specs.Register.{cards_from, settled, result_of, filled_with};
 
+use buffer::Writer;
 use farthest::{Leader, Leaders};
 use header::{Cards, Stored};
 use refusals::{Refusal, SentBack};
@@ -56,6 +57,10 @@ pub fn answer_through(
 {
     let (running, size) = walk::through::<Answers>(cards, scratch)?;
     let leaders = held_to(stored, running.leaders)?;
-    answers[..size].copy_from_slice(&scratch[..size]);
+    let mut written = Writer {
+        bytes: answers,
+        at: 0,
+    };
+    buffer::put_text(&mut written, &scratch[..size]);
     Ok(leaders)
 }
