@@ -12,7 +12,8 @@ use Rattle.search.specs.Laws.{lt_or_ge}
 use Rattle.pieces.specs.Pieces.{in_front, pieces, before}
 use Rattle.pieces.proofs.Laws.{pieces_more, pieces_last}
 use Rattle.fields.specs.declared.Fields.{Fields}
-use Rattle.numerals.specs.Numerals.{Form, value_in}
+use Rattle.numerals.specs.declared.Form.{Form}
+use Rattle.numerals.specs.Numerals.{value_in}
 use Rattle.comma.specs.Line.{fields_in, and, next, remark}
 use Rattle.comma.specs.Stages.{placed, taken_in}
 

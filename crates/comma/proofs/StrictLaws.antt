@@ -10,7 +10,9 @@ use Rattle.decimal.proofs.Laws.{padded_all, digits_all, digits_some, digits_shor
 use Rattle.pieces.specs.Pieces.{closed, Without, EachWithout}
 use Rattle.pieces.proofs.Laws.{pieces_closed}
 use Rattle.fields.specs.declared.Fields.{Fields}
-use Rattle.numerals.specs.Numerals.{Form, Cas, Temperature, read_on, cas_in, heat_in, value_in, most_of, Within}
+use Rattle.numerals.specs.declared.Form.{Form}
+use Rattle.numerals.specs.declared.Form.TheVariants.{Cas, Temperature}
+use Rattle.numerals.specs.Numerals.{read_on, cas_in, heat_in, value_in, most_of, Within}
 use Rattle.numerals.proofs.Laws.{within, digits_are, value_written, digits_without, decimal_written, grouped, groups, heat_plus, heat_minus}
 use Rattle.comma.specs.Line.{fields_in, and, next, remark, of_one_byte, of_two_bytes, of_four_bytes, tenths_form, lasts_in, amounts_in, codes_in, longest_line, line_of}
 use Rattle.comma.specs.Text.{lines_of, Cards, cards, bad, then, cards_from, cards_in}

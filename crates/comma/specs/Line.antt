@@ -4,7 +4,9 @@
 use Rattle.std.specs.Prelude.{ℕ, List, [], ◌∷◌, true, false, ltb, eqb, length, Option, Some, None}
 use Rattle.pieces.specs.Pieces.{pieces}
 use Rattle.fields.specs.declared.Fields.{Fields}
-use Rattle.numerals.specs.Numerals.{Form, Decimal, Cas, Temperature, value_in}
+use Rattle.numerals.specs.declared.Form.{Form}
+use Rattle.numerals.specs.declared.Form.TheVariants.{Decimal, Cas, Temperature}
+use Rattle.numerals.specs.Numerals.{value_in}
 use Rattle.comma.specs.declared.Codes.{Codes}
 use Rattle.comma.specs.declared.Amounts.{Amounts}
 

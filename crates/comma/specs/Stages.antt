@@ -4,7 +4,8 @@
 use Rattle.std.specs.Prelude.{ℕ, ◌+◌, ◌≡◌, List, true, false, ltb, length, drop, Option, Some, None}
 use Rattle.comma.specs.declared.Amounts.{Amounts}
 use Rattle.pieces.specs.Pieces.{before}
-use Rattle.numerals.specs.Numerals.{Form, value_in}
+use Rattle.numerals.specs.declared.Form.{Form}
+use Rattle.numerals.specs.Numerals.{value_in}
 use Rattle.comma.specs.declared.Codes.{Codes}
 use Rattle.comma.specs.Line.{fields_in, lasts_in, amounts_in, codes_in}
 

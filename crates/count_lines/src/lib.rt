@@ -54,7 +54,9 @@ pub fn count_lines(text: &[u8]) -> Result<usize, usize>
 {
     let mut count = 0usize;
     for line in Lines::of(text) {
-        read_line::line_of(line).ok_or(count + 1)?;
+        if read_line::line_of(line).is_none() {
+            return Err(count + 1);
+        }
         count += 1;
     }
     Ok(count)

@@ -14,7 +14,9 @@ use Rattle.decimal.specs.Decimal.{digits, read_from, AllDigits}
 use Rattle.decimal.proofs.Laws.{digits_read, digits_all, digits_some}
 use Rattle.pieces.specs.Pieces.{Without}
 use Rattle.spaces.specs.Spaces.{skip, keep, chop, bare}
-use Rattle.numerals.specs.Numerals.{Form, Decimal, Cas, Temperature, is_digit, numbered, read_on, number_in, hyphened, unhyphened, cas_in, minus, heat_in, value_of, value_in, most_of, Within}
+use Rattle.numerals.specs.declared.Form.{Form}
+use Rattle.numerals.specs.declared.Form.TheVariants.{Decimal, Cas, Temperature}
+use Rattle.numerals.specs.Numerals.{is_digit, numbered, read_on, number_in, hyphened, unhyphened, cas_in, minus, heat_in, value_of, value_in, most_of, Within}
 
 -- ---- no number is above what its field may hold
 

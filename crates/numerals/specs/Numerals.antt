@@ -7,6 +7,8 @@ use Rattle.search.specs.Places.{every}
 use Rattle.buffer.specs.Numbers.{byte_at}
 use Rattle.decimal.specs.Decimal.{read_from}
 use Rattle.spaces.specs.Spaces.{bare}
+use Rattle.numerals.specs.declared.Form.{Form}
+use Rattle.numerals.specs.declared.Form.TheVariants.{Decimal, Cas, Temperature}
 
 -- ---- "decimal"
 
@@ -60,11 +62,6 @@ heat_in (b ∷ rest) = elim (eqb b 45) [ true ↦ minus (number_in 32_768 rest) 
 -- ---- a field by what it is to hold
 
 -- "decimal but for .. CAS number with hyphens .., temperature in tenths": a decimal number of at most so much, or one of the two
-pub data Form : Type 0 where
-  Decimal : ℕ → Form
-  Cas : Form
-  Temperature : Form
-
 abbrev pub value_of : Form → List ℕ → Option ℕ
 value_of (Decimal most) text = number_in most text
 value_of Cas text = cas_in text

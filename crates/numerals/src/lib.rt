@@ -4,6 +4,14 @@
 ghost use Rattle.std.specs.Prelude.{◌≡◌, ◌≤◌};
 ghost use Rattle.numerals.specs.Numerals.{read_on, number_in, heat_in};
 
+// What a field is to hold: a decimal number of at most so much, a CAS number with hyphens, or a temperature.
+#[derive(Clone, Copy)]
+pub enum Form {
+    Decimal(u32),
+    Cas,
+    Temperature,
+}
+
 // The largest number of four bytes.
 pub const FOUR_BYTES: u32 = u32::MAX;
 

@@ -4,6 +4,7 @@
 use Rattle.std.specs.Prelude.{ℕ, suc, ◌+◌, ◌≤◌, ◌<◌, ◌≡◌, refl, List, [], ◌∷◌, ◌++◌, Bool, true, false, eqb, length, take, drop}
 use Rattle.std.proofs.Common.{zero-le, suc-le-suc, le_of_suc-le-suc, not-suc-le-zero, arith, ap, ap₂, ◌∙◌, length-append, eq-eqb, ne_eqb, eqb-true}
 use Rattle.std.proofs.lemmas.Bool.{eqb-false}
+use Rattle.std.proofs.lemmas.List.{drop_all}
 use Rattle.pieces.specs.Pieces.{in_front, pieces, closed, before, Without, EachWithout}
 
 -- ---- the two ways of a byte
@@ -28,6 +29,10 @@ pieces_on x b last rest n = rw (ne_eqb b x n, pieces)
 pub before_none : (x : ℕ) → length (before x []) ≡ 0
 unfolding before
 before_none x = refl
+
+-- past the end of a text no piece starts
+pub beyond : (x at : ℕ) (s : List ℕ) → length s ≤ at → length (before x (drop at s)) ≡ 0
+beyond x at s h = rw (drop_all at s h) (before_none x)
 
 -- ---- the first piece
 

@@ -2,7 +2,10 @@
 #![tactic(auto)]
 
 ghost use Rattle.std.specs.Prelude.{◌≡◌};
-ghost use Rattle.numerals.specs.Numerals.{Form, Decimal, Cas, Temperature, cas_in, value_of, value_in};
+ghost use Rattle.numerals.specs.declared.Form.{Form};
+ghost use Rattle.numerals.specs.Numerals.{cas_in, value_of, value_in};
+
+use numerals::Form;
 
 // A CAS number, its hyphens fifth and second from the end: its three groups, one read on from the other.
 #[tactic(auto, unfolding(numerals::specs::Numerals::cas_in, numerals::specs::Numerals::hyphened), using(crate::proofs::Ends::cas_groups))]
@@ -18,7 +21,20 @@ fn cas_in(text: &[u8]) -> Option<u32>
     numerals::read_on(&text[end - 1..], second, numerals::FOUR_BYTES)
 }
 
-// What a field is to hold, and how its number is read.
+// The number of a field by a form that is known only as the program runs, with spaces around it or none.
+#[tactic(auto, unfolding(numerals::specs::Numerals::value_in))]
+pub fn value_by(form: Form, field: &[u8]) -> Option<u32>
+    ensures { result ≡ value_in form field.now }
+{
+    let text = spaces::trimmed(field);
+    match form {
+        Form::Decimal(most) => numerals::number_in(text, most),
+        Form::Cas => cas_in(text),
+        Form::Temperature => numerals::heat_in(text),
+    }
+}
+
+// The same of a form that is known before: what a field is to hold, and how its number is read.
 pub trait Reads {
     ghost form: { Form };
 
@@ -31,7 +47,7 @@ pub trait Reads {
 pub struct Decimal<const MOST: u32>;
 
 impl<const MOST: u32> Reads for Decimal<MOST> {
-    ghost form = { Decimal MOST };
+    ghost form = { Form.Decimal MOST };
 
     fn read(text: &[u8]) -> Option<u32> {
         numerals::number_in(text, MOST)
@@ -49,7 +65,7 @@ pub type FourBytes = Decimal<{ numerals::FOUR_BYTES }>;
 pub struct Cas;
 
 impl Reads for Cas {
-    ghost form = { Cas };
+    ghost form = { Form.Cas };
 
     fn read(text: &[u8]) -> Option<u32> {
         cas_in(text)
@@ -60,7 +76,7 @@ impl Reads for Cas {
 pub struct Temperature;
 
 impl Reads for Temperature {
-    ghost form = { Temperature };
+    ghost form = { Form.Temperature };
 
     fn read(text: &[u8]) -> Option<u32> {
         numerals::heat_in(text)

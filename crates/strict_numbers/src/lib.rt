@@ -31,6 +31,9 @@ pub fn put_cas(out: &mut Writer, cas: u32)
     put_cas_end(out, cas);
 }
 
+// What stands in front of a temperature below zero.
+const MINUS: u8 = b'-';
+
 // A temperature, from its two bytes as a card has them, and a comma.
 fn put_heat(out: &mut Writer, heat: u16)
     requires { Room out.old 32 }
@@ -41,7 +44,7 @@ fn put_heat(out: &mut Writer, heat: u16)
         decimal::put_number_then(out, heat as u64, b',');
         return;
     }
-    buffer::put_byte(out, b'-');
+    buffer::put_byte(out, MINUS);
     decimal::put_number_then(out, 65_536 - heat as u64, b',');
 }
 

@@ -9,8 +9,8 @@ use Rattle.count_lines.proofs.count_lines.Goals as goal
 pub loop-line-init : goal.loop-line-init
 loop-line-init c = (tt, tt, search (count_start, rules), grind (arith, common_steps, lines_within))
 
-pub returns-in_err-ok_or : goal.returns-in_err-ok_or
-returns-in_err-ok_or c =
+pub returns-then-is_none : goal.returns-then-is_none
+returns-then-is_none c =
     grind (arith, common_steps, count_bad (count_from 0 (cards_in c.args.text.now)) c.loop-line.count (lines_left c.loop-line.line-iterator) c.loop-line.invariant.2 c.in-Some.line.now (lines_left c.next.new.self) c.in-Some.ensures.steps c.line_of.result c.line_of.ensures)
 
 pub loop-line-preserved : goal.loop-line-preserved
