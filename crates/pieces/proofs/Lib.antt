@@ -1,2 +1,1 @@
-mod Turns
 pub mod Laws

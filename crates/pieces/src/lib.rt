@@ -11,8 +11,12 @@ pub fn end_of(text: &[u8], separator: u8) -> usize
     ensures value { result ≡ length (before separator text.now) }
     ensures within { result ≤ length text.now }
 {
-    let place = text.iter().position(|&b| b == separator);
-    place.unwrap_or(text.len())
+    for (place, &b) in text.iter().enumerate() {
+        if b == separator {
+            return place;
+        }
+    }
+    text.len()
 }
 
 // The same from a place on, as a place of the whole text; the place itself where that lies past the end.

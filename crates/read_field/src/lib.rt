@@ -10,8 +10,10 @@ ghost use Rattle.comma.specs.Stages.{taken_in};
 use numerals::Form;
 use read_number::Reads;
 
-// The first field of a text, and what stands behind its comma. A comma has to end it, since a number is never the last field.
+// The first field of a text, and what stands behind its comma. A comma has to end it, since a number is never the last field. It is laid
+// out where it is called: handed over in memory, the two parts would cost as much as a tenth of the reading.
 #[tactic(auto, using(pieces::proofs::Laws::before_take))]
+#[inline(always)]
 fn cut(text: &[u8]) -> Option<(&[u8], &[u8])>
     ensures first { IfSome result (λ parts. parts.0.now ≡ before 44 text.now) }
     ensures rest { IfSome result (λ parts. parts.1.now ≡ drop (length (before 44 text.now) + 1) text.now) }

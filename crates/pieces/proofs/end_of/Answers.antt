@@ -1,11 +1,13 @@
-use Rattle.std.proofs.Common.{rules, tests}
-use Rattle.std.proofs.lemmas.Iterator.{YieldsList-from_slice}
-use Rattle.std.proofs.lemmas.Iterator.Search.{position_from_yields_List}
-use Rattle.std.specs.Prelude.{eqb}
-use Rattle.pieces.proofs.Turns.{found}
+use Rattle.std.proofs.Common.{arith}
+use Rattle.std.proofs.lemmas.Grind.{common_steps}
+use Rattle.pieces.proofs.Laws.{before_stop, before_on, beyond}
 use Rattle.pieces.proofs.end_of.Goals as goal
 
+pub returns-then-b-separator-clause-value : goal.returns-then-b-separator-clause-value
+returns-then-b-separator-clause-value c = grind (arith, common_steps, before_stop)
+
+pub loop-place-preserved : goal.loop-place-preserved
+loop-place-preserved c = grind (arith, common_steps, before_on)
+
 pub returns-clause-value : goal.returns-clause-value
-returns-clause-value c =
-    let place = position_from_yields_List (λ b. eqb b c.args.separator) _ _ c.position-place.result c.position-place.ensures.ran (YieldsList-from_slice c.args.text.now cc) (λ x b q k. search (rules, tests)) in
-    found _ _ c.args.text.now c.position-place.result place (search rules)
+returns-clause-value c = grind (arith, common_steps, beyond)
