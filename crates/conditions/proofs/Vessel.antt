@@ -43,7 +43,7 @@ ground_in_lem : (b : ℕ) (g : Ground) → ground_of b ≡ Some g → ground_in 
 unfolding ground_of ground_in
 ground_in_lem b g e = grind arith
 
-held_in_lem : (b area wall : ℕ) (c : Containment) → held_of b area wall ≡ Some c → held_in b area wall ≡ c
+pub held_in_lem : (b area wall : ℕ) (c : Containment) → held_of b area wall ≡ Some c → held_in b area wall ≡ c
 unfolding held_of open_of held_in
 held_in_lem b area wall c e = grind (arith, nat_tests)
 
