@@ -31,6 +31,7 @@ pub trait Writes {
 }
 
 // Nothing is written.
+#[derive(Clone, Copy)]
 pub struct Nothing;
 
 impl Writes for Nothing {
@@ -42,6 +43,7 @@ impl Writes for Nothing {
 }
 
 // A card's sixteen bytes of the answer buffer.
+#[derive(Clone, Copy)]
 pub struct Answers;
 
 impl Writes for Answers {
@@ -55,6 +57,7 @@ impl Writes for Answers {
 }
 
 // A card's line of a listing.
+#[derive(Clone, Copy)]
 pub struct Lines;
 
 impl Writes for Lines {
