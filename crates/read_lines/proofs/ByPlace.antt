@@ -1,6 +1,6 @@
 -- The second walk over a text by the places in it.
 -- Assumes nothing.
-use Rattle.std.specs.Prelude.{Option, Some, None, Ok, Err}
+use Rattle.std.specs.Prelude.{Option, Some, None, Result, Ok, Err}
 use Prim.Native.Nat.{ℕ, suc, ◌+◌, ◌-◌, ◌*◌, ◌≤◌, ◌<◌}
 use Rattle.std.proofs.Common.{arith, add-one, ap, ◌∙◌, ⊎_elim}
 use Rattle.std.specs.Prelude.{◌≡◌, refl, List, [], ◌∷◌, length, take, drop}
@@ -75,3 +75,7 @@ module _ (count place : ℕ) (text : List ℕ) (at : ℕ) (counted : Ok count �
 
   pub lay_end : (whole out : List ℕ) → count ≤ place → whole ≡ laid_from (7 + 24 * place) (rest (place + 1) text at) out → out ≡ whole
   lay_end whole out h w = laid_all (rest (place + 1) text at) whole out h counted w
+
+-- what the second walk asks of the first
+pub counted_good : (text : List ℕ) (l : Result ℕ ℕ) (n : ℕ) → l ≡ count_from 0 (cards_in text) → l ≡ Ok n → count_from 0 (cards_in text) ≡ Ok n
+counted_good text l n e q = sym e ∙ q
