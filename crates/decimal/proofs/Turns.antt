@@ -32,9 +32,11 @@ counted n {before} {after} {count} e w =
     subst (λ (t : List ℕ). Puts before after t) (ap (λ (k : ℕ). digits_in 10 k n) e ∙ sym (padded_in (length (digits n)) n) ∙ sym (digits_padded n)) w
 
 -- the wholes, the dot and the decimals, one after the other: the number with decimals
-pub dotted : (places n whole : ℕ) {b₀ b₁ b₂ b₃ : Writer} → whole ≡ 10 ^ places → Puts b₀ b₁ (digits (n / whole)) → Puts b₁ b₂ (46 ∷ [])
-    → Puts b₂ b₃ (digits_in 10 places (n % whole)) → Puts b₀ b₃ (fixed places n)
+pub dotted : (places tens count n whole : ℕ) {b₀ b₁ b₂ b₃ : Writer} → whole ≡ 10 ^ tens → tens ≡ places → Puts b₀ b₁ (digits (n / whole)) → Puts b₁ b₂ (46 ∷ [])
+    → Puts b₂ b₃ (digits_in 10 count (n % whole)) → count ≡ places → Puts b₀ b₃ (fixed places n)
 unfolding fixed
-dotted places n whole {b₀} {b₁} {b₂} {b₃} e wholes point decimals =
-    subst (λ k. Puts b₀ b₃ (digits (n / k) ++ (46 ∷ padded places (n % k)))) e
-    (then wholes (then point (subst (λ (t : List ℕ). Puts b₂ b₃ t) (sym (padded_in places (n % whole))) decimals)))
+dotted places tens count n whole {b₀} {b₁} {b₂} {b₃} e power wholes point decimals same =
+    let exact : Puts b₂ b₃ (padded places (n % whole)) =
+    subst (λ (t : List ℕ). Puts b₂ b₃ t) (ap (λ (k : ℕ). digits_in 10 k (n % whole)) same ∙ sym (padded_in places (n % whole))) decimals in
+    subst (λ k. Puts b₀ b₃ (digits (n / k) ++ (46 ∷ padded places (n % k)))) (e ∙ ap (λ (k : ℕ). 10 ^ k) power)
+    (then wholes (then point exact))
