@@ -9,6 +9,9 @@ for program in example lines likely old edit seasons; do
     gcc -std=c11 -Wall -Wextra -Werror -O2 -Ic "c/$program.c" crates/rings_c/out/librings_c.a -o "target/c-$program"
 done
 
+# what the archive needs from outside are two names of the C library, which a compiler for C asks for by itself
+nm -u crates/rings_c/out/librings_c.a | awk '$1 == "U" { print $2 }' | sort -u | diff - <(printf 'memcpy\nmemset\n')
+
 # ends with the status that is expected, and nothing on standard output
 fails() {
     local expected=$1 status=0
