@@ -50,7 +50,7 @@ pub fn put_byte(out: &mut Writer, b: u8)
     out.at += 1;
 }
 
-// A word, or any other bytes.
+// A word, or any other bytes, byte by byte: a copy whose length is known only as the program runs would ask memmove of whoever links it.
 pub fn put_text(out: &mut Writer, text: &[u8])
     requires { Room out.old (length text.now) }
     ensures { Puts out.old out.new text.now }

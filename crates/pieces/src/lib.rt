@@ -5,7 +5,7 @@ ghost use Rattle.std.specs.Prelude.{◌≡◌, ◌+◌, ◌≤◌, length, drop}
 ghost use Rattle.pieces.specs.Pieces.{before};
 
 // The place of the first separator of a text, or the end of the text where there is none. It stays a function of its own when a line is
-// read: laid out for each field anew, the search has no processor's register left for the place, and costs half as much again.
+// read: laid out for each field anew, the search has no processor's register left for the place, and reading costs a third more.
 #[inline(never)]
 pub fn end_of(text: &[u8], separator: u8) -> usize
     ensures value { result ≡ length (before separator text.now) }

@@ -10,8 +10,11 @@ ghost use Rattle.comma.specs.Stages.{taken_in};
 use numerals::Form;
 use read_number::Reads;
 
+// What fits two bytes.
+pub const TWO_BYTES: u32 = 65_535;
+
 // The first field of a text, and what stands behind its comma. A comma has to end it, since a number is never the last field. It is laid
-// out where it is called: handed over in memory, the two parts would cost as much as a tenth of the reading.
+// out where it is called, so that the two parts are not handed over in memory.
 #[tactic(auto, using(pieces::proofs::Laws::before_take))]
 #[inline(always)]
 fn cut(text: &[u8]) -> Option<(&[u8], &[u8])>
@@ -56,7 +59,7 @@ pub fn tenths_form(state: u8) -> Form
     ensures { result ≡ tenths_form state }
 {
     match state {
-        5 => Form::Decimal(65_535),
+        5 => Form::Decimal(TWO_BYTES),
         _ => Form::Temperature,
     }
 }

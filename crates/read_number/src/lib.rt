@@ -34,7 +34,7 @@ pub fn value_by(form: Form, field: &[u8]) -> Option<u32>
     }
 }
 
-// The same of a form that is known before: what a field is to hold, and how its number is read.
+// The same of a form that is known as the code is written: what a field is to hold, and how its number is read.
 pub trait Reads {
     ghost form: { Form };
 

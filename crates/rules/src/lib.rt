@@ -59,16 +59,25 @@ fn reaching(bound: u32, endpoint: u32) -> u64
     (bound as u64 * endpoint as u64 + 999) / 1000
 }
 
-// A table of ranges, by the upper bounds of the closed ones and the entries in use, the open range's last: the entry of the range
-// that holds rate / endpoint. The last range is open, so there is one for every ratio.
-pub fn by_range(bounds: &[u32], entries: &[u16], rate: u64, endpoint: u32) -> Option<Miles>
+// The entry of the range that holds rate / endpoint. The last range is open, so there is one for every ratio.
+fn in_range(bounds: &[u32], entries: &[u16], rate: u64, endpoint: u32) -> Miles
     requires { length entries.now ≡ length bounds.now + 1 }
-    ensures { result ≡ answered false (get_or entries.now (first_at_least (suc (1000 * rate)) (scaled endpoint bounds.now)) 0) }
+    ensures { result.0 ≡ get_or entries.now (first_at_least (suc (1000 * rate)) (scaled endpoint bounds.now)) 0 }
 {
     let range = bounds
         .iter()
         .position(|&bound| rate < reaching(bound, endpoint));
-    Some(Miles(entries[range.unwrap_or(bounds.len())]))
+    Miles(entries[range.unwrap_or(bounds.len())])
+}
+
+// A table of ranges whose length is known only as the program runs, by the upper bounds of the closed ranges in tenths and the entries
+// in use, the open range's last: its answer, which no ratio goes beyond.
+#[tactic(auto, unfolding(crate::specs::Rules::answered))]
+pub fn by_range(bounds: &[u32], entries: &[u16], rate: u64, endpoint: u32) -> Option<Miles>
+    requires { length entries.now ≡ length bounds.now + 1 }
+    ensures { result ≡ answered false (get_or entries.now (first_at_least (suc (1000 * rate)) (scaled endpoint bounds.now)) 0) }
+{
+    Some(in_range(bounds, entries, rate, endpoint))
 }
 
 // A table of ranges of rate / endpoint: the upper bounds of the closed ones in tenths, and the entries in use in hundredths of a
@@ -79,12 +88,11 @@ pub struct Ranges<const BOUNDS: usize, const ENTRIES: usize> {
 }
 
 impl<const BOUNDS: usize, const ENTRIES: usize> Ranges<BOUNDS, ENTRIES> {
-    // The entry of the range that holds rate / endpoint. The last range is open, so there is one for every ratio.
-    #[tactic(auto, unfolding(crate::specs::Rules::answered))]
+    // The entry of the range that holds rate / endpoint.
     pub fn read(&self, rate: u64, endpoint: u32) -> Miles
         requires { ENTRIES ≡ BOUNDS + 1 }
         ensures { result.0 ≡ get_or self.now.entries (first_at_least (suc (1000 * rate)) (scaled endpoint self.now.bounds)) 0 }
     {
-        by_range(&self.bounds, &self.entries, rate, endpoint).unwrap()
+        in_range(&self.bounds, &self.entries, rate, endpoint)
     }
 }

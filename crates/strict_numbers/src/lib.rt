@@ -9,6 +9,9 @@ ghost use Rattle.strict_numbers.specs.Parts.{cas_end};
 
 use buffer::Writer;
 
+// What stands in front of a temperature below zero.
+const MINUS: u8 = b'-';
+
 // The last two groups of a CAS number and the comma behind it.
 fn put_cas_end(out: &mut Writer, cas: u32)
     requires { Room out.old 8 }
@@ -30,9 +33,6 @@ pub fn put_cas(out: &mut Writer, cas: u32)
     decimal::put_number_then(out, cas as u64 / 1_000, b'-');
     put_cas_end(out, cas);
 }
-
-// What stands in front of a temperature below zero.
-const MINUS: u8 = b'-';
 
 // A temperature, from its two bytes as a card has them, and a comma.
 fn put_heat(out: &mut Writer, heat: u16)

@@ -1,12 +1,10 @@
--- `rules::by_range` meets its contract: a rate is below `reaching` of a bound exactly where it does not reach the bound.
+-- `rules::in_range` meets its contract: a rate is below `reaching` of a bound exactly where it does not reach the bound.
 -- Assumes nothing.
 use Rattle.std.proofs.Common.{rules, arith, ℕ, List, suc, ◌+◌, ◌*◌, ◌/◌, ◌≤◌, ◌<◌, length, get_or}
-use Rattle.rules.specs.Rules.{answered}
 use Rattle.rules.proofs.Scaled.{scaled_place}
-use Rattle.rules.proofs.by_range.Goals as goal
+use Rattle.rules.proofs.in_range.Goals as goal
 
 pub returns : goal.returns
-unfolding answered
 returns c =
     let bounds : List ℕ = c.args.bounds.now in
     let r : ℕ = c.unwrap_or.result in
